@@ -1,0 +1,1 @@
+-- Laws of the reader that layers above cite.

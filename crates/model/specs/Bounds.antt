@@ -1,0 +1,51 @@
+-- The two bounds, in parts of a tick (document 003, theorem 2.1 and definition 3.1; document 01, "The two bounds").
+--
+--   PARTS           one tick is 720,720 parts, the least common multiple of 1 to 16
+--   vol G s         the sum of the WCETs over the vertices of kind s
+--   volume G        for each kind its vol × PARTS / cores, added up
+--   mostCores G     the largest core number among all declared kinds (Mmax)
+--   scaled G v      the scaled weight of v
+--   OldB G B        B is OLD-B of G
+--   NewB1 G B       B is NEW-B-1 of G
+--   ThePath G p     the complete path with the largest scaled sum; of several, the least
+use mathlib.Core.Path.{_≡_}
+use mathlib.Core.Bool.{Bool}
+use mathlib.Core.List.{List}
+use mathlib.Core.Logic.{_⊎_}
+use Prim.Native.Nat.{ℕ, _+_, _-_, _*_, _/_, _≤_}
+use lib.Dec.{eqb}
+use Rattle.model.specs.Places.{pick, sum, largest, along}
+use Rattle.model.specs.Graph.{Graph}
+use Rattle.model.specs.Path.{Complete, Greatest, Before}
+
+abbrev pub PARTS : ℕ
+PARTS = 720720
+
+unfoldable pub vol : Graph → ℕ → ℕ
+vol G s = sum (λ v. pick (eqb (G .kind v) s) (G .wcet v) 0) (G .n)
+
+unfoldable pub volume : Graph → ℕ
+volume G = sum (λ s. vol G s * PARTS / G .cores s) (G .kinds)
+
+unfoldable pub mostCores : Graph → ℕ
+mostCores G = largest (G .cores) (G .kinds)
+
+unfoldable pub scaled : Graph → ℕ → ℕ
+scaled G v = G .wcet v * (PARTS - PARTS / G .cores (G .kind v))
+
+-- (PARTS - PARTS / Mmax) × len, with len the largest sum of WCETs along a complete path; plus the volume
+pub record OldB (G : Graph) (B : ℕ) : Type 0 where
+  pub len : ℕ
+  pub longest : Greatest G (along (G .wcet)) len
+  pub is : B ≡ (PARTS - PARTS / mostCores G) * len + volume G
+
+-- the largest sum of scaled weights along a complete path, plus the volume
+pub record NewB1 (G : Graph) (B : ℕ) : Type 0 where
+  pub len : ℕ
+  pub longest : Greatest G (along (scaled G)) len
+  pub is : B ≡ len + volume G
+
+pub record ThePath (G : Graph) (p : List ℕ) : Type 0 where
+  pub is-complete : Complete G p
+  pub longest : (q : List ℕ) → Complete G q → along (scaled G) q ≤ along (scaled G) p
+  pub least : (q : List ℕ) → Complete G q → along (scaled G) q ≡ along (scaled G) p → (q ≡ p) ⊎ Before p q

@@ -1,0 +1,8 @@
+-- What the words of document 01 (the scope) and of document 003 (Han and others) mean. Read in this order.
+pub mod Places
+pub mod Graph
+pub mod Cycle
+pub mod Path
+pub mod Bounds
+pub mod Schedule
+pub mod ListSchedule
