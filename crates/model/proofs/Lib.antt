@@ -1,5 +1,25 @@
 -- What is proved of the definitions.
+--
+-- Laws of the combinators, for all crates:
 pub mod Bools
 pub mod Places
 pub mod Sums
 pub mod Tables
+-- Graphs: cycles and ranks, paths, the largest sum along a path:
+pub mod Cycles
+pub mod Paths
+-- Schedules: finished and ready, and the tests for them; the argument behind every bound:
+pub mod Finished
+pub mod Tests
+pub mod Potential
+pub mod Tick
+-- The bounds: parts of a tick, the largest sum along a path, NEW-B-1 and OLD-B:
+pub mod Shares
+pub mod Longest
+pub mod NewB1
+pub mod Compare
+-- The theorem of demand 3:
+pub mod Demand3
+-- The list schedule: it is work conserving, it ends, and it can leap:
+pub mod Listed
+pub mod Leap

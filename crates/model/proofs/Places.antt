@@ -28,6 +28,23 @@ all-or-some P Q (suc n) h = go (h n (omega arith)) (all-or-some P Q n (λ v l. h
         last v l (yes e) = rw e p
         last v l (no e) = f v (omega arith)
 
+-- the first instant that has P, where some instant has it
+pub first-instant : (P : ℕ → Type 0) → ((t : ℕ) → Dec (P t)) → (T : ℕ) → P T → (F : ℕ) × P F × ((t : ℕ) → t < F → P t → ⊥)
+first-instant P d T h = from-start T 0 (omega arith) (λ t l x. omega arith)
+  where
+    from-start : (k t : ℕ) → k + t ≡ T → ((m : ℕ) → m < t → P m → ⊥) → (F : ℕ) × P F × ((t : ℕ) → t < F → P t → ⊥)
+    from-start zero t e none = let q : t ≡ T = omega arith in (t, rw q h, none)
+    from-start (suc k) t e none = go (d t) (λ n. from-start k (suc t) (omega arith) n)
+      where
+        go : Dec (P t) → (((m : ℕ) → m < suc t → P m → ⊥) → (F : ℕ) × P F × ((t : ℕ) → t < F → P t → ⊥))
+            → (F : ℕ) × P F × ((t : ℕ) → t < F → P t → ⊥)
+        go (yes p) ih = (t, p, none)
+        go (no p) ih = ih (λ m l x. last m l x (ℕ-discrete m t))
+          where
+            last : (m : ℕ) → m < suc t → P m → Dec (m ≡ t) → ⊥
+            last m l x (yes q) = p (rw q at x)
+            last m l x (no q) = none m (omega arith) x
+
 -- ---- `first`
 
 -- at the place where a scan stops

@@ -11,12 +11,11 @@
 use mathlib.Core.Path.{_≡_}
 use mathlib.Core.Bool.{Bool}
 use mathlib.Core.List.{List}
-use mathlib.Core.Logic.{_⊎_}
-use Prim.Native.Nat.{ℕ, _+_, _-_, _*_, _/_, _≤_}
+use Prim.Native.Nat.{ℕ, _+_, _-_, _*_, _/_}
 use lib.Dec.{eqb}
 use Rattle.model.specs.Places.{pick, sum, largest, along}
 use Rattle.model.specs.Graph.{Graph}
-use Rattle.model.specs.Path.{Complete, Greatest, Before}
+use Rattle.model.specs.Path.{Greatest, LeastLongest}
 
 abbrev pub PARTS : ℕ
 PARTS = 720720
@@ -45,7 +44,5 @@ pub record NewB1 (G : Graph) (B : ℕ) : Type 0 where
   pub longest : Greatest G (along (scaled G)) len
   pub is : B ≡ len + volume G
 
-pub record ThePath (G : Graph) (p : List ℕ) : Type 0 where
-  pub is-complete : Complete G p
-  pub longest : (q : List ℕ) → Complete G q → along (scaled G) q ≤ along (scaled G) p
-  pub least : (q : List ℕ) → Complete G q → along (scaled G) q ≡ along (scaled G) p → (q ≡ p) ⊎ Before p q
+abbrev pub ThePath : Graph → List ℕ → Type 0
+ThePath G p = LeastLongest G (scaled G) p

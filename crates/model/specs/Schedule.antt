@@ -11,6 +11,7 @@
 --   Times G e                 no execution time is above its WCET
 --   WorkConserving G S        in each tick, of each kind, as many ready vertices run as the smaller of its cores and the number ready
 --   FinishOf G S v F          F is the first instant at which v is finished
+--   AllFinished G S t         every vertex is finished at the instant t
 --   Finish G S F              F is the first instant at which all vertices are finished
 --   EndsBy G S B              S ends, and at or before B parts
 use mathlib.Core.Path.{_≡_}

@@ -1,1 +1,0 @@
--- Laws of the reader that layers above cite.

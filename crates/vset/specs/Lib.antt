@@ -1,0 +1,2 @@
+-- The definitions that the contracts of `vset` cite.
+pub mod Members
