@@ -206,11 +206,3 @@ walk-cyclic {G} W t = go (cycle-or W)
 
 pub acyclic-test : {G : Graph} → WellFormed G → cyclic G ≡ false → Acyclic G
 acyclic-test W f v x = clash (cyclic-walk W v x) f
-
--- where each vertex of a set has a predecessor in the set, the set is empty
-pub stuck : {G : Graph} (R : Ranked G) (U : ℕ → Type 0) → ((v : ℕ) → U v → (u : ℕ) × Edge G u v × U u) → (v : ℕ) → U v → ⊥
-stuck R U back v x = go (suc (R .rank v)) v (omega arith) x
-  where
-    go : (k v : ℕ) → R .rank v < k → U v → ⊥
-    go zero v l x = omega arith
-    go (suc k) v l x = let b = back v x in go k (b .0) (omega (arith, R .up (b .0) v (b .1))) (b .2)

@@ -11,7 +11,7 @@ use Rattle.model.specs.Bounds.{PARTS, scaled, volume, OldB, NewB1}
 use Rattle.model.specs.Schedule.{Schedule, left, Finished, Times, WorkConserving, AllFinished, FinishOf, Finish, EndsBy}
 use Rattle.model.proofs.Places.{first-instant}
 use Rattle.model.proofs.Cycles.{ranked}
-use Rattle.model.proofs.Finished.{finished?, all-finished-or, fin-later}
+use Rattle.model.proofs.Finished.{finished?, all-finished-or}
 use Rattle.model.proofs.NewB1.{room}
 use Rattle.model.proofs.Longest.{new-b-1-exists}
 use Rattle.model.proofs.Compare.{new-le-old}

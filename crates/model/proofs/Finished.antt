@@ -25,10 +25,6 @@ fin-before (done h f) = f
 pub fin-less : {G : Graph} {c d : ℕ → ℕ} {v : ℕ} → ((u : ℕ) → d u ≤ c u) → Finished G c v → Finished G d v
 fin-less {v = v} l (done h f) = done {v = v} (omega (arith, l v)) (λ u e. fin-less l (f u e))
 
--- and where the same vertices have something left
-pub fin-zeros : {G : Graph} {c d : ℕ → ℕ} {v : ℕ} → ((u : ℕ) → c u ≡ 0 → d u ≡ 0) → Finished G c v → Finished G d v
-fin-zeros {v = v} l (done h f) = done {v = v} (l v h) (λ u e. fin-zeros l (f u e))
-
 -- finished: nothing is left of it, nor of any ancestor
 pub fin-ancestor : {G : Graph} {c : ℕ → ℕ} {u v : ℕ} → Walk G u v → Finished G c v → c u ≡ 0
 fin-ancestor {u = u} (one e) f = fin-left (fin-before f u e)
@@ -57,11 +53,6 @@ left-step S t v = omega arith
 
 pub fin-step : {G : Graph} (S : Schedule) (t : ℕ) {v : ℕ} → Finished G (left S t) v → Finished G (left S (suc t)) v
 fin-step S t x = fin-less (left-step S t) x
-
--- what is finished stays finished
-pub fin-later : {G : Graph} (S : Schedule) (t d : ℕ) {v : ℕ} → Finished G (left S t) v → Finished G (left S (d + t)) v
-fin-later {G} S t zero {v} x = let e : 0 + t ≡ t = omega arith in rw e x
-fin-later {G} S t (suc d) {v} x = let e : suc d + t ≡ suc (d + t) = omega arith in rw e (fin-step S (d + t) (fin-later S t d x))
 
 -- what runs has a tick less to go
 pub left-run : {G : Graph} (S : Schedule) (t : ℕ) {v : ℕ} → Ready G (left S t) v → S .runs t v ≡ true → left S (suc t) v + 1 ≤ left S t v

@@ -105,15 +105,15 @@ fair-steps G s f (suc t) = fair-leap G (steps G t s) (fair-steps G s f t) 1
 
 -- ---- as a schedule
 
-pick-bit : (b : Bool) → pick {A = ℕ} b 1 0 ≡ bit b
-pick-bit true = refl
-pick-bit false = refl
+pick-one : (b : Bool) → pick {A = ℕ} b 1 0 ≡ bit b
+pick-one true = refl
+pick-one false = refl
 
 -- what is left in the list schedule is what the states have
 left-at : (G : Graph) (e : ℕ → ℕ) (t v : ℕ) → left (listSchedule G e) t v ≡ steps G t (begin e) .rest v
 unfolding left listSchedule steps leap
 left-at G e zero v = refl
-left-at G e (suc t) v = rw (left-at G e t v, pick-bit) refl
+left-at G e (suc t) v = rw (left-at G e t v, pick-one) refl
 
 pub left-steps : (G : Graph) (e : ℕ → ℕ) (t : ℕ) → left (listSchedule G e) t ≡ steps G t (begin e) .rest
 left-steps G e t = fun-ext (left-at G e t)
@@ -148,7 +148,7 @@ some-chosen {G} W A s f v l x =
     (both (ready G (s .rest) u) (eqb (G .kind u) (G .kind u)) (ready-tells W (s .rest) A .complete u m (r .has)) (eq-eqb (G .kind u) (G .kind u) refl)) in
     let some : 0 < count (λ v. chosen G s v && eqb (G .kind v) (G .kind u)) (G .n) = omega (arith, chosen-count G s f (G .kind u) k, W .some-core (G .kind u) k) in
     let w = some-counted (λ v. chosen G s v && eqb (G .kind v) (G .kind u)) (G .n) some in
-    (w .0, w .1, left-of (chosen G s (w .0)) _ (w .2))
+    (w .0, w .1, left-of (chosen G s (w .0)) (eqb (G .kind (w .0)) (G .kind u)) (w .2))
 
 -- THEOREM. Every work-conserving schedule ends, whatever the times; so the list schedule does.
 pub ends : {G : Graph} → WellFormed G → Acyclic G → {S : Schedule} → WorkConserving G S → (F : ℕ) × Finish G S F

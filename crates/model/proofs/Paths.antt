@@ -8,7 +8,7 @@ use Prim.Native.Nat.{ℕ, zero, suc, _+_, _-_, _*_, _≤_, _<_, zero-le}
 use native.Mathlib.Omega.{arith}
 use lib.ListN.{length}
 use Rattle.model.specs.Places.{sum, along, any, Tells}
-use Rattle.model.specs.Graph.{Graph, Edge, Source, Sink, source, sink, WellFormed}
+use Rattle.model.specs.Graph.{Graph, Edge, Source, Sink, source, WellFormed}
 use Rattle.model.specs.Cycle.{Acyclic, Ranked}
 use Rattle.model.specs.Path.{ToSink, end, link, Complete, complete}
 use Rattle.model.proofs.Bools.{clash, cases, not-true, true-not, not-is-true}
@@ -18,19 +18,12 @@ use Rattle.model.proofs.Cycles.{ranked, rank-below}
 
 -- ---- sources and sinks
 
--- the tests tell them
+-- the test tells them
 pub source-tells : {G : Graph} → WellFormed G → Tells (G .n) (Source G) (source G)
 unfolding source
 source-tells {G} W = record {
   sound = λ v l t u e. clash e (any-false (λ u. G .edge u v) (G .n) u (W .from u v e) (not-is-true _ t));
   complete = λ v l s. true-not (any (λ u. G .edge u v) (G .n)) (any-none (λ u. G .edge u v) (G .n) (λ u m. not-true (G .edge u v) (s u)));
-}
-
-pub sink-tells : {G : Graph} → WellFormed G → Tells (G .n) (Sink G) (sink G)
-unfolding sink
-sink-tells {G} W = record {
-  sound = λ v l t u e. clash e (any-false (λ u. G .edge v u) (G .n) u (W .to v u e) (not-is-true _ t));
-  complete = λ v l s. true-not (any (λ u. G .edge v u) (G .n)) (any-none (λ u. G .edge v u) (G .n) (λ u m. not-true (G .edge v u) (s u)));
 }
 
 module _ {G : Graph} (W : WellFormed G) where
@@ -80,11 +73,6 @@ pub record Raised (G : Graph) (A : ℕ → Type 0) (p : List ℕ) : Type 0 where
 
 pub raised-tail : {G : Graph} {A : ℕ → Type 0} {u : ℕ} {p : List ℕ} → Raised G A (u ∷ p) → Raised G A p
 raised-tail r = record { top = r .top; rest = r .rest; has = r .has; path = r .path; over = ext-tail (r .over) }
-
-pub along-extends : (f : ℕ → ℕ) {p q : List ℕ} → Extends p q → along f p ≤ along f q
-unfolding along
-along-extends f same = omega arith
-along-extends f (more x) = omega (arith, along-extends f x)
 
 module _ {G : Graph} (W : WellFormed G) (R : Ranked G) where
   climb : (k v : ℕ) (p : List ℕ) → R .rank v < k → ToSink G (v ∷ p) → Raised G (Source G) (v ∷ p)

@@ -62,6 +62,42 @@ first-none p zero below = refl
 first-none p (suc n) below =
     rw (below zero (suc-le-suc zero-le)) (ap suc (first-none (λ k. p (suc k)) n (λ k h. below (suc k) (suc-le-suc h))))
 
+-- nothing passes below it, and it passes there unless it is the end
+pub first-le : (p : ℕ → Bool) (n : ℕ) → first p n ≤ n
+unfolding first
+first-le p zero = omega arith
+first-le p (suc n) = go (p zero) (first-le (λ k. p (suc k)) n)
+  where
+    go : (b : Bool) → first (λ k. p (suc k)) n ≤ n → pick b zero (suc (first (λ k. p (suc k)) n)) ≤ suc n
+    go true ih = omega arith
+    go false ih = omega arith
+
+pub first-below : (p : ℕ → Bool) (n k : ℕ) → k < first p n → p k ≡ false
+unfolding first
+first-below p zero k l = absurd (omega arith)
+first-below p (suc n) k l = go (p zero) refl k (first-below (λ i. p (suc i)) n) l
+  where
+    go : (b : Bool) → p zero ≡ b → (k : ℕ) → ((i : ℕ) → i < first (λ i. p (suc i)) n → p (suc i) ≡ false)
+        → k < pick b zero (suc (first (λ i. p (suc i)) n)) → p k ≡ false
+    go true e k ih h = absurd (omega arith)
+    go false e zero ih h = e
+    go false e (suc k) ih h = ih k (omega arith)
+
+pub first-here : (p : ℕ → Bool) (n : ℕ) → first p n < n → p (first p n) ≡ true
+unfolding first
+first-here p zero l = absurd (omega arith)
+first-here p (suc n) l = go (p zero) refl (first-here (λ i. p (suc i)) n) l
+  where
+    go : (b : Bool) → p zero ≡ b → (first (λ i. p (suc i)) n < n → p (suc (first (λ i. p (suc i)) n)) ≡ true)
+        → pick b zero (suc (first (λ i. p (suc i)) n)) < suc n → p (pick b zero (suc (first (λ i. p (suc i)) n))) ≡ true
+    go true e ih h = e
+    go false e ih h = ih (omega arith)
+
+-- where something passes below n, the first is below n
+pub first-found : (p : ℕ → Bool) (n k : ℕ) → k < n → p k ≡ true → first p n < n
+first-found p n k l e =
+    ⊎-elim (λ (h : n ≤ first p n). absurd (clash e (first-below p n k (omega arith)))) (λ h. h) (le-or-lt n (first p n))
+
 -- ---- `count`
 
 pub count-more : (p : ℕ → Bool) (n : ℕ) → count p (n + 1) ≡ count p n + bit (p n)
@@ -168,29 +204,6 @@ count-firsts p k (suc n) = next (p n) (count p n) (count (λ i. p i && ltb (coun
         go : (k ≤ c) ⊎ (c < k) → x + bit (ltb c k) ≡ min k (c + 1)
         go (inl l) = rw (le-ltb c k l) (omega arith)
         go (inr l) = rw (lt-ltb c k l) (omega arith)
-
--- of the places that hold, one with the least value
-pub least-value : (p : ℕ → Bool) (f : ℕ → ℕ) (n : ℕ) → 0 < count p n
-    → (k : ℕ) × (k < n) × (p k ≡ true) × ((u : ℕ) → u < n → p u ≡ true → f k ≤ f u)
-least-value p f n l = let s = some-counted p n l in down (suc (f (s .0))) (s .0) (omega arith) (s .1) (s .2)
-  where
-    -- from a place of value below m to a least one: another place of a smaller value, or none
-    down : (m k : ℕ) → f k < m → k < n → p k ≡ true → (k : ℕ) × (k < n) × (p k ≡ true) × ((u : ℕ) → u < n → p u ≡ true → f k ≤ f u)
-    down zero k h l e = absurd (omega arith)
-    down (suc m) k h l e =
-        go (all-or-some (λ u. p u ≡ true → f k ≤ f u) (λ u. (p u ≡ true) × (f u < f k)) n (λ u b. turn u (cases (p u)) (le-or-lt (f k) (f u))))
-        (λ u b q s. down m u s b q)
-      where
-        turn : (u : ℕ) → (p u ≡ true) ⊎ (p u ≡ false) → (f k ≤ f u) ⊎ (f u < f k) → (p u ≡ true → f k ≤ f u) ⊎ ((p u ≡ true) × (f u < f k))
-        turn u q (inl s) = inl (λ x. s)
-        turn u (inl q) (inr s) = inr (q, s)
-        turn u (inr q) (inr s) = inl (λ x. absurd (clash x q))
-
-        go : ((u : ℕ) → u < n → p u ≡ true → f k ≤ f u) ⊎ ((u : ℕ) × (u < n) × ((p u ≡ true) × (f u < f k)))
-            → ((u : ℕ) → u < n → p u ≡ true → f u < m → (k : ℕ) × (k < n) × (p k ≡ true) × ((u : ℕ) → u < n → p u ≡ true → f k ≤ f u))
-            → (k : ℕ) × (k < n) × (p k ≡ true) × ((u : ℕ) → u < n → p u ≡ true → f k ≤ f u)
-        go (inl a) ih = (k, l, e, a)
-        go (inr r) ih = ih (r .0) (r .1) (r .2 .0) (omega (arith, r .2 .1))
 
 -- ---- `any` and `every`
 

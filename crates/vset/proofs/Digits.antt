@@ -1,14 +1,14 @@
 -- A number's binary digits, over every width: the operations, places, a single digit, the complement; how many digits are 1, and
 -- which is the lowest.
 use mathlib.Core.Path.{_≡_, refl, sym, ap, ap₂, _∙_, subst, fun-ext}
-use mathlib.Core.Logic.{_⊎_, inl, inr, ⊎-elim}
-use mathlib.Core.Bool.{Bool, true, false, not, _&&_, _||_, xor, and-true}
+use mathlib.Core.Logic.{⊎-elim}
+use mathlib.Core.Bool.{Bool, true, false, not, _&&_, _||_}
 use Prim.Native.Nat.{ℕ, zero, suc, _+_, _-_, _*_, _/_, _%_, _^_, _≤_, _<_, zero-le, suc-le-suc}
-use native.Mathlib.Nat.{div-add-mod', zero-div, div-eq-of-lt, div-one, mod-lt, mod-eq-of-lt, zero-add, add-zero, add-comm, one-mul, mul-assoc, lt-of-lt-of-le, le-of-lt, add-mul-div-right, add-mul-mod-self-right, div-div-eq-div-mul, pow-succ', pow-suc, lt-irrefl}
+use native.Mathlib.Nat.{div-add-mod', zero-div, div-eq-of-lt, div-one, mod-lt, mod-eq-of-lt, add-zero, add-comm, one-mul, mul-assoc, lt-of-lt-of-le, add-mul-div-right, add-mul-mod-self-right, div-div-eq-div-mul, pow-succ', pow-suc}
 use native.Mathlib.Omega.{arith}
 use native.Mathlib.Numerals.{add-one}
-use lib.Dec.{eqb, eqb-refl, lit<}
-use lib.Bits.{bitAnd, bitOr, bitXor, and-shr, and-mod, or-shr, or-mod, xor-shr, xor-mod, xor-add-and, and-comm, and-mask, and-zero-r, or-zero-r, and-block, or-block}
+use lib.Dec.{eqb, lit<}
+use lib.Bits.{bitAnd, bitOr, bitXor, and-shr, and-mod, or-shr, or-mod, xor-shr, xor-mod, xor-add-and, and-comm, and-mask}
 use lib.Arith.{lt-one}
 use lib.Count.{ones, ones-step, trailingZeros, under}
 use lib.Pow.{pow-pos, pow-mono, pow-add, shr-shr, shr-lt, high, ones-split}

@@ -1,7 +1,7 @@
 -- Laws that belong to no one function.
-pub mod FirstPlace
 pub mod Digits
 pub mod Words
 pub mod Same
 pub mod Rank
 pub mod Outcomes
+pub mod Gather

@@ -1,6 +1,6 @@
 -- Two words of 64 digits as one number of 128: what each function on the words makes of that number's digits.
-use mathlib.Core.Path.{_≡_, refl, sym, ap, ap₂, _∙_, subst}
-use Prim.Native.Nat.{ℕ, zero, suc, _+_, _-_, _*_, _/_, _%_, _^_, _≤_, _<_}
+use mathlib.Core.Path.{_≡_, sym, ap, ap₂, _∙_}
+use Prim.Native.Nat.{ℕ, _+_, _-_, _*_, _%_, _^_, _≤_, _<_}
 use mathlib.Core.Logic.{_⊎_, inl, inr, ⊎-elim}
 use native.Mathlib.Nat.{add-comm, zero-add, add-zero, one-mul, mod-lt, mod-eq-of-lt, add-mul}
 use native.Mathlib.Omega.{arith}
@@ -16,7 +16,7 @@ use Rattle.model.proofs.Bools.{cases, clash, le-or-lt, not-true, both, left-of,
 use Rattle.model.proofs.Places.{first-at, first-none, any-elim, any-none, any-false}
 use Rattle.vset.specs.Members.{has, num, isIn, Members}
 use Rattle.vset.specs.declared.Vset.{Vset}
-use Rattle.vset.proofs.FirstPlace.{first-le, first-below, first-here, first-found}
+use Rattle.model.proofs.Places.{first-le, first-below, first-here}
 use Rattle.vset.proofs.Digits.{has-low, has-high, has-and, has-or, has-pow, has-and-not, has-zero, has-above, has-ext, ones-count, trailing-first}
 
 -- a word

@@ -1,6 +1,6 @@
 ghost use mathlib.Core.Path.{_≡_};
-ghost use mathlib.Core.Bool.{Bool, false, not, _&&_, _||_};
-ghost use Prim.Native.Nat.{ℕ, _<_, min};
+ghost use mathlib.Core.Bool.{false, not, _&&_, _||_};
+ghost use Prim.Native.Nat.{_<_, min};
 ghost use lib.Dec.{eqb, ltb};
 ghost use Rattle.model.specs.Places.{count, first, any};
 ghost use Rattle.vset.specs.Members.{isIn, Members};

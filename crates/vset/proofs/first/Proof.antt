@@ -9,7 +9,7 @@ use Rattle.model.specs.Places.{count, first}
 use Rattle.model.proofs.Bools.{le-or-lt}
 use Rattle.model.proofs.Places.{some-counted}
 use Rattle.vset.specs.Members.{isIn, Members}
-use Rattle.vset.proofs.FirstPlace.{first-found, first-here, first-below}
+use Rattle.model.proofs.Places.{first-found, first-here, first-below}
 use Rattle.vset.proofs.Words.{past-none}
 use Rattle.vset.proofs.Rank.{firsts, lasts, firsts-none, lasts-all, lasts-some, rank-of-least, firsts-step, lasts-step, firsts-enough}
 use Rattle.vset.proofs.first.Statement.{statement}

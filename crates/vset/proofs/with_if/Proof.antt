@@ -1,5 +1,5 @@
 use native.Mathlib.Omega.{arith}
-use mathlib.Core.Path.{sym, ap, _∙_}
+use mathlib.Core.Path.{sym}
 use mathlib.Core.Bool.{or-false}
 use Rattle.vset.proofs.Words.{itself}
 use borrow.Author.Needs.{needs}

@@ -1,0 +1,58 @@
+use Prim.Native.Nat.{_≤_, _-_}
+use mathlib.Core.Path.{_≡_, refl}
+use native.Mathlib.Omega.{arith}
+use Rattle.model.specs.Places.{count}
+use Rattle.graph.specs.Marks.{stands}
+use Rattle.model.proofs.Places.{count-more}
+use borrow.Author.Needs.{needs}
+use Rattle.graph.proofs.cycle.tally_marks.Statement.{statement}
+use Rattle.graph.proofs.cycle.tally_marks.Tie as tie
+
+abbrev Inv-loop : tie.InvT-loop
+Inv-loop x n marks c₀ v₀ c v = (v ≤ n) × (c ≡ count (stands marks x) v) × (c ≤ v)
+
+abbrev μ-loop : tie.MeasureT-loop
+μ-loop x n marks c₀ v₀ c v = n - v
+
+loop-holds : tie.Need-loop-holds Inv-loop μ-loop
+unfolding count
+loop-holds c = (search needs, refl, search needs)
+
+array-read-one : tie.Need-array-read-one Inv-loop μ-loop
+array-read-one c = search needs
+
+one-requires : tie.Need-one-requires Inv-loop μ-loop
+one-requires c κs = search needs
+
+add-c : tie.Need-add-c Inv-loop μ-loop
+add-c c = search needs
+
+add-v : tie.Need-add-v Inv-loop μ-loop
+add-v c = search needs
+
+loop-less : tie.Need-loop-less Inv-loop μ-loop
+loop-less c = search needs
+
+loop-again : tie.Need-loop-again Inv-loop μ-loop
+unfolding stands
+loop-again c = (search needs, simp (count-more, ← c .before .before .loop .inv .1, c .one .ensures .0), search needs)
+
+returns : tie.Need-returns Inv-loop μ-loop
+returns c =
+    let e : c .before .loop .v ≡ c .before .before .args .n = omega arith in
+    rw (← e) (c .before .loop .inv .1)
+
+pub tally-marks-spec : {M : Type 1} → statement M
+tally-marks-spec =
+    tie.close
+    (tie.spec
+    Inv-loop
+    μ-loop
+    loop-holds
+    array-read-one
+    one-requires
+    add-c
+    add-v
+    loop-less
+    loop-again
+    returns)

@@ -1,0 +1,109 @@
+// The graph file: what the reader hands back, and the answers that every entry of the planner shares.
+ghost use mathlib.Core.Path.{_≡_};
+ghost use Prim.Native.Nat.{_≤_};
+ghost use lib.ListN.{length};
+ghost use Rattle.graph.specs.Judge.{judgeFrom, takenFrom, readOf};
+ghost use Rattle.graph.specs.Steps.{refusedWith, takenOf};
+
+mod cycle;
+mod file;
+mod judge;
+mod lists;
+mod rules;
+
+// What an answer says no with: document 01's number, and the place of the record, vertex or instant at fault.
+pub struct Refusal {
+    pub number: u32,
+    pub place: u32,
+}
+
+pub enum Answer {
+    Accepted,
+    Refused(Refusal),
+}
+
+// Counts and lists of a graph; unused places are zero. An edge is from * 256 + to.
+#[repr(C)]
+pub struct Graph {
+    pub kinds: usize,
+    pub n: usize,
+    pub edges: usize,
+    pub cores: [u8; 10],
+    pub kind: [u8; 128],
+    pub wcet: [u32; 128],
+    pub edge: [u16; 1024],
+}
+
+// The reader's answer and graph; beside a refusal the graph is zero throughout.
+pub struct Taken {
+    pub answer: Answer,
+    pub graph: Graph,
+}
+
+// A refusal, with the graph that stands beside it.
+fn refused(r: Refusal) -> Taken
+    ensures { λ t. ⌜ t ≡ refusedWith r ⌝ }
+{
+    let graph = lists::no_graph();
+    Taken {
+        answer: Answer::Refused(r),
+        graph,
+    }
+}
+
+// A number that is said of the whole file and not of a record has place 0.
+fn refused_whole(number: u32) -> Taken
+    ensures { λ t. ⌜ t ≡ refusedWith (record { number = number; place = 0 }) ⌝ }
+{
+    refused(Refusal { number, place: 0 })
+}
+
+// The last two numbers, 11 and 12, are said of the graph and not of records: they are tested once its lists are filled.
+fn judged(g: Graph) -> Taken
+    requires { ⌜ (g .n ≤ 128) × (g .edges ≤ 1024) ⌝ }
+    ensures { λ t. ⌜ t ≡ takenOf g ⌝ }
+{
+    if cycle::cyclic(g) {
+        return refused_whole(11);
+    }
+    if cycle::ends_astray(g) {
+        return refused_whole(12);
+    }
+    Taken {
+        answer: Answer::Accepted,
+        graph: g,
+    }
+}
+
+// The answer of the numbers from `least` on, and the graph beside it. The numbers up to 10 are tested on the file's records.
+fn take_from(file: &[u8], least: u32) -> Taken
+    requires { ⌜ (2 ≤ least) × (least ≤ 4) × (length (now file) ≤ 9320) ⌝ }
+    ensures { λ t. ⌜ t ≡ takenFrom least (now (file .entry)) ⌝ }
+{
+    let c = file::count_all(file);
+    let found = judge::lowest(file, least, c);
+    if found.number < 11 {
+        return refused(found);
+    }
+    let g = lists::lists(file, c);
+    judged(g)
+}
+
+// The answer of the numbers from `least` on, for the writer, which judges the file that it would write from number 4 on.
+pub fn judge_from(file: &[u8], least: u32) -> Answer
+    requires { ⌜ (2 ≤ least) × (least ≤ 4) × (length (now file) ≤ 9320) ⌝ }
+    ensures { λ r. ⌜ r ≡ judgeFrom least (now (file .entry)) ⌝ }
+{
+    let t = take_from(file, least);
+    t.answer
+}
+
+// The graph of a file, or the number that says no and its place. Where number 1 applies, nothing else is looked at.
+pub fn read(file: &[u8]) -> Taken
+    ensures { λ r. ⌜ r ≡ readOf (now (file .entry)) ⌝ }
+{
+    if rules::wrong_length(file) {
+        return refused_whole(1);
+    }
+    take_from(file, 2)
+}
