@@ -1,0 +1,64 @@
+-- From the reader's value t of a file s, and from what was found for its graph, to the entries' answers.
+use mathlib.Core.Path.{_≡_, sym, ap, _∙_}
+use mathlib.Core.List.{List}
+use Prim.Native.Nat.{ℕ, _≤_, _<_}
+use native.Mathlib.Omega.{arith}
+use lib.ListN.{getD, length, drop, length-append}
+use Rattle.model.specs.Places.{padded}
+use Rattle.model.specs.Bounds.{scaled}
+use Rattle.graph.specs.Model.{AcceptedGraph, asModel}
+use Rattle.graph.specs.Judge.{readOf}
+use Rattle.graph.specs.declared.Graph.{Graph}
+use Rattle.graph.specs.declared.Refusal.{Refusal}
+use Rattle.graph.specs.declared.Answer.{Answer}
+use Rattle.graph.specs.declared.Answer.the-variants.{Accepted, Refused}
+use Rattle.graph.specs.declared.Taken.{Taken}
+use Rattle.graph.proofs.Accepted.{taken}
+use Rattle.bounds.specs.Weight.{weightBy}
+use Rattle.bounds.specs.declared.weights.Measure.the-variants.{Scaled}
+use Rattle.paths.specs.Ahead.{weigh, sumAt, Longest}
+use Rattle.paths.specs.Head.{Head}
+use Rattle.paths.specs.Trace.{Traced}
+use Rattle.bounds.specs.Answers.{Figures, Nothing, BoundsOf, PathIn, narrow, found, PathOf, refused, accepted}
+use Rattle.bounds.specs.declared.Bounded.{Bounded}
+use Rattle.bounds.specs.declared.Pathed.{Pathed}
+use Rattle.bounds.specs.declared.Pathed.the-variants.{Vertices, Refused as NoPath}
+use Rattle.paths.proofs.Complete.{least-longest-same}
+use Rattle.paths.proofs.Traces.{trace-path}
+use Rattle.bounds.proofs.Weighing.{weighs}
+
+module _ (s : List ℕ) {t : Taken} (e : t ≡ readOf s) where
+  answered : {a : Answer} → t .answer ≡ a → readOf s .answer ≡ a
+  answered p = sym (ap (λ (x : Taken). x .answer) e) ∙ p
+
+  pub read-accepted : ((i : ℕ) → getD s i 0 < 256) → t .answer ≡ Accepted → AcceptedGraph (t .graph)
+  read-accepted bytes p = rw e (taken s bytes (answered p))
+
+  pub bounds-accepted : (r : Bounded) → t .answer ≡ Accepted → r .answer ≡ Accepted → Figures (asModel (t .graph)) r → BoundsOf s r
+  bounds-accepted r p q f = record { answer = q ∙ sym (answered p); figures = rw (answered p) (rw e at f) }
+
+  pub bounds-refused : (r : Bounded) {x : Refusal} → t .answer ≡ Refused x → r .answer ≡ Refused x → Nothing r → BoundsOf s r
+  bounds-refused r p q f = record { answer = q ∙ sym (answered p); figures = rw (answered p) f }
+
+  pub path-accepted : (old : List ℕ) {r : Pathed} {new : List ℕ} → t .answer ≡ Accepted → PathIn (t .graph) old r new → PathOf s old r new
+  path-accepted old p h = accepted (answered p) (rw e at h)
+
+  pub path-refused : (old : List ℕ) {x : Refusal} → t .answer ≡ Refused x → PathOf s old (NoPath x) old
+  path-refused old p = refused (answered p)
+
+-- the trace from the head, over the scaled weights, is the path
+pub path-found : {g : Graph} (G : AcceptedGraph g) (w sums : List ℕ) (h : ℕ) (old new : List ℕ) (n : ℕ) → w ≡ padded 128 (weightBy Scaled (asModel g)) (g .n)
+    → Longest (asModel g) (weigh w) sums → Head (asModel g) (sumAt (weigh w) (weigh sums)) h → g .n ≤ length old
+    → Traced (asModel g) (weigh w) (weigh sums) h old new n → PathIn g old (Vertices n) new
+unfolding asModel weightBy scaled
+path-found {g} G w sums h old new n e L H l T =
+    let W = G .well-formed in
+    let p = trace-path W (weigh w) (weigh sums) (L .ahead) h (T .rest) H (T .trace) in
+    rw (T .held, T .count) (found l (least-longest-same W (weigh w) (scaled (asModel g)) (weighs (weightBy Scaled (asModel g)) (g .n) e) p))
+
+-- so many vertices as the answer says stand in the lent list
+pub path-fits : {s old : List ℕ} {r : Pathed} {new : List ℕ} → PathOf s old r new → length new ≡ length old → (n : ℕ) → r ≡ Vertices n → n ≤ length new
+path-fits (refused {x = x} e) l n h = absurd (let z : _≡_ {A = ℕ} 0 1 = cc in omega arith)
+path-fits (accepted e (narrow m)) l n h = absurd (let z : _≡_ {A = ℕ} 0 1 = cc in omega arith)
+path-fits {old = old} (accepted e (found {p = p} m q)) l n h =
+    let k : length p ≡ n = cc in omega (arith, length-append p (drop (length p) old))

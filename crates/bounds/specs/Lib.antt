@@ -1,0 +1,3 @@
+-- What the vertices weigh, and what the entries give.
+pub mod Weight
+pub mod Answers

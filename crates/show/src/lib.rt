@@ -1,0 +1,95 @@
+// The sheet of a file, written to standard output. Only programs are above it.
+ghost use mathlib.Core.Path.{_≡_};
+ghost use Prim.Native.Nat.{_≤_};
+ghost use Rattle.graph.specs.Judge.{readOf};
+use bounds::Pathed;
+use graph::Answer;
+use graph::Graph;
+use graph::Refusal;
+
+fn word(w: &[u8]) {
+    io::write_all(1, w);
+}
+
+fn number(n: u64) {
+    io::print_decimal(1, n);
+}
+
+// A name and one number.
+fn line(name: &[u8], n: u64) {
+    word(name);
+    number(n);
+    word(b"\n");
+}
+
+fn refusal(r: Refusal) {
+    word(b"refused ");
+    number(r.number as u64);
+    word(b" at ");
+    number(r.place as u64);
+    word(b"\n");
+}
+
+fn counts(g: Graph) {
+    word(b"graph ");
+    number(g.kinds as u64);
+    word(b" ");
+    number(g.n as u64);
+    word(b" ");
+    number(g.edges as u64);
+    word(b"\n");
+}
+
+fn vertex(v: u8) {
+    word(b" ");
+    number(v as u64);
+}
+
+fn vertices(list: &[u8; 128], n: usize)
+    requires { ⌜ n ≤ 128 ⌝ }
+{
+    let mut i: usize = 0;
+    while i < n {
+        vertex(list[i]);
+        i += 1;
+    }
+}
+
+// No graph has more than 128 vertices, so the room suffices.
+fn path(file: &[u8]) {
+    let mut out = [0u8; 128];
+    let found = bounds::path(file, &mut out);
+    match found {
+        Pathed::Refused(r) => refusal(r),
+        Pathed::Vertices(n) => {
+            word(b"path");
+            vertices(&out, n);
+            word(b"\n");
+        }
+    }
+}
+
+fn figures(file: &[u8]) {
+    let b = bounds::bounds(file);
+    line(b"old ", b.old.0);
+    line(b"new ", b.new.0);
+    line(b"ticks ", b.ticks.0);
+}
+
+// Five lines for an accepted file, else one that says why it is refused. What is printed is not in the contract, since no contract can
+// speak of what a call of the operating system wrote; the answer is.
+pub fn sheet(file: &[u8]) -> Answer
+    ensures { λ r. ⌜ r ≡ readOf (now (file .entry)) .answer ⌝ }
+{
+    let taken = graph::read(file);
+    let answer = taken.answer;
+    match answer {
+        Answer::Refused(r) => refusal(r),
+        Answer::Accepted => {
+            counts(taken.graph);
+            figures(file);
+            path(file);
+        }
+    }
+    answer
+}
