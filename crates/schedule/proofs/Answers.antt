@@ -1,0 +1,147 @@
+-- From what the reader says of a file, and from what was found for its graph, to the entries' answers.
+use mathlib.Core.Path.{_≡_, refl, sym, ap, _∙_, fun-ext}
+use mathlib.Core.List.{List}
+use mathlib.Core.Logic.{⊎-elim}
+use mathlib.Core.Bool.{Bool, true, false}
+use Prim.Native.Nat.{ℕ, _≤_, _<_}
+use native.Mathlib.Omega.{arith}
+use lib.Dec.{eqb, ltb}
+use lib.ListN.{getD, length, List·getD-eq-default}
+use borrow.Author.Tests.{eqb-true, ltb-false, le-ltb}
+use Rattle.model.specs.Places.{pick, first, table}
+use Rattle.model.specs.ListSchedule.{begin}
+use Rattle.model.proofs.Tables.{padded-at, padded-past}
+use Rattle.model.proofs.Bools.{le-or-lt}
+use Rattle.graph.specs.Model.{asModel, AcceptedGraph}
+use Rattle.graph.specs.Judge.{readOf}
+use Rattle.graph.specs.declared.Graph.{Graph}
+use Rattle.graph.specs.declared.Refusal.{Refusal}
+use Rattle.graph.specs.declared.Answer.{Answer}
+use Rattle.graph.specs.declared.Answer.the-variants.{Accepted, Refused}
+use Rattle.graph.specs.declared.Taken.{Taken}
+use Rattle.graph.proofs.Accepted.{taken}
+use Rattle.tick.specs.declared.Run.{Run}
+use Rattle.tick.specs.declared.Report.the-variants.{Refused as NoTick}
+use Rattle.tick.specs.Run.{leftOf, recordOf}
+use Rattle.tick.specs.Remains.{place}
+use Rattle.tick.proofs.Turns.{table-ext}
+use Rattle.vset.specs.Members.{isIn}
+use Rattle.vset.proofs.Same.{set-in}
+use Rattle.model.proofs.Places.{first-below}
+use Rattle.schedule.specs.Start.{timesOf, tooLong, judgeTimes, refusedStart, startedOn, startOf}
+use Rattle.schedule.specs.Tick.{tickOn, tickOf}
+use Rattle.schedule.specs.Whole.{finishAt, finishOf, Fitting, playIn, playOn, playOf, filledBeside, finishesOf}
+use Rattle.schedule.specs.Leaps.{Fresh, Ran}
+use Rattle.schedule.specs.declared.leaps.Work.{Work}
+use Rattle.schedule.specs.declared.Played.{Played}
+use Rattle.schedule.specs.declared.Played.the-variants.{Finish, Refused as NoPlay}
+
+module _ (s : List ℕ) (t : Taken) (e : t ≡ readOf s) where
+  answered : (a : Answer) → t .answer ≡ a → readOf s .answer ≡ a
+  answered a p = sym (ap (λ (x : Taken). x .answer) e) ∙ p
+
+  pub read-accepted : ((i : ℕ) → getD s i 0 < 256) → t .answer ≡ Accepted → AcceptedGraph (t .graph)
+  read-accepted bytes p = rw e (taken s bytes (answered Accepted p))
+
+  pub start-accepted : t .answer ≡ Accepted → (l : List ℕ) → startOf s l ≡ startedOn (t .graph) l
+  unfolding startOf
+  start-accepted p l = rw (answered Accepted p, e) refl
+
+  pub start-refused : (r : Refusal) → t .answer ≡ Refused r → (l : List ℕ) → startOf s l ≡ refusedStart r
+  unfolding startOf
+  start-refused r p l = rw (answered (Refused r) p) refl
+
+  pub tick-accepted : t .answer ≡ Accepted → (r : Run) → tickOf s r ≡ tickOn (t .graph) r
+  unfolding tickOf
+  tick-accepted p r = rw (answered Accepted p, e) refl
+
+  pub tick-refused : (x : Refusal) → t .answer ≡ Refused x → (r : Run) → tickOf s r ≡ record { report = NoTick x; run = r }
+  unfolding tickOf
+  tick-refused x p r = rw (answered (Refused x) p) refl
+
+  -- a whole run: what is returned, and what the lent list holds
+  pub play-accepted : t .answer ≡ Accepted → (l old new : List ℕ) (r : Played) → r ≡ playOn (t .graph) l (length old) → new ≡ filledBeside r (t .graph) l old
+      → (r ≡ playOf s l (length old)) × (new ≡ finishesOf s l old)
+  unfolding playOf finishesOf
+  play-accepted p l old new r a b =
+      let q : playOf s l (length old) ≡ r = rw (answered Accepted p, ← e) (sym a) in
+      (sym q, rw (q, ← e) b)
+
+  pub play-refused : (x : Refusal) → t .answer ≡ Refused x → (l old : List ℕ) → (_≡_ {A = Played} (NoPlay x) (playOf s l (length old))) × (old ≡ finishesOf s l old)
+  unfolding playOf finishesOf
+  play-refused x p l old = let q : playOf s l (length old) ≡ NoPlay x = rw (answered (Refused x) p) refl in (sym q, rw q refl)
+
+-- ---- the times
+
+-- times that are judged to fit, do
+pub times-fit : (g : Graph) (l : List ℕ) → judgeTimes g l ≡ Accepted → Fitting g l
+unfolding judgeTimes tooLong
+times-fit g l ok = go (eqb (length l) (g .n)) refl (ltb (first (tooLong (g .wcet) l) (g .n)) (g .n)) refl ok
+  where
+    go : (a : Bool) → eqb (length l) (g .n) ≡ a → (b : Bool) → ltb (first (tooLong (g .wcet) l) (g .n)) (g .n) ≡ b
+        → _≡_ {A = Answer} (pick a (pick b (Refused (record { number = 14; place = first (tooLong (g .wcet) l) (g .n) })) Accepted) (Refused (record { number = 13; place = 0 }))) Accepted
+        → Fitting g l
+    go false p b q e = absurd (let z : _≡_ {A = ℕ} 0 1 = cc in omega arith)
+    go true p true q e = absurd (let z : _≡_ {A = ℕ} 0 1 = cc in omega arith)
+    go true p false q e = record {
+      as-many = eqb-true (length l) (g .n) p;
+      short = λ v h. ltb-false (getD (g .wcet) v 0) (getD l v 0) (first-below (tooLong (g .wcet) l) (g .n) v (omega (arith, ltb-false (first (tooLong (g .wcet) l) (g .n)) (g .n) q)));
+    }
+
+module _ (g : Graph) (l : List ℕ) where
+  pub started-refused : (x : Refusal) → judgeTimes g l ≡ Refused x → startedOn g l ≡ refusedStart x
+  unfolding startedOn
+  started-refused x p = rw p refl
+
+  pub played-accepted : judgeTimes g l ≡ Accepted → (m : ℕ) → playOn g l m ≡ playIn g l m
+  unfolding playOn
+  played-accepted p m = rw p refl
+
+  pub played-refused : (x : Refusal) → judgeTimes g l ≡ Refused x → (m : ℕ) → playOn g l m ≡ NoPlay x
+  unfolding playOn
+  played-refused x p m = rw p refl
+
+  module _ (A : AcceptedGraph g) (fit : Fitting g l) where
+    abbrev begun : Run
+    begun = recordOf (g .n) 0 (begin (timesOf l))
+
+    left-begun : (v : ℕ) → leftOf begun v ≡ timesOf l v
+    unfolding leftOf recordOf
+    left-begun v =
+        ⊎-elim
+        (λ (h : g .n ≤ v). padded-past 128 (timesOf l) (g .n) v h ∙ sym (List·getD-eq-default l 0 (omega (arith, fit .as-many))))
+        (λ (h : v < g .n). padded-at 128 (timesOf l) (g .n) v h)
+        (le-or-lt (g .n) v)
+
+    pub times-begun : leftOf begun ≡ timesOf l
+    times-begun = fun-ext left-begun
+
+    unmarked-begun : (v : ℕ) → isIn (begun .ran) v ≡ false
+    unfolding recordOf
+    unmarked-begun v = set-in (λ k. false) (λ k h. refl) v
+
+    pub fresh-begun : Fresh g begun
+    unfolding recordOf
+    fresh-begun = record {
+      agrees = refl;
+      at-start = refl;
+      short = λ v h. omega (arith, left-begun v, fit .short v h);
+      past = λ v h. left-begun v ∙ List·getD-eq-default l 0 (omega (arith, fit .as-many));
+      unmarked = unmarked-begun;
+    }
+
+    -- the end of a whole run, as the answer and as the list that is handed over
+    module _ (run : Run) (w : Work) (is-begun : run ≡ begun) (ran : Ran g (leftOf run) w) where
+      times : leftOf run ≡ timesOf l
+      times = ap leftOf is-begun ∙ times-begun
+
+      pub finish-played : (m : ℕ) → g .n ≤ m → _≡_ {A = Played} (Finish (record { 0 = w .run .instant })) (playIn g l m)
+      unfolding playIn
+      finish-played m h =
+          rw (le-ltb m (g .n) h)
+          (ap {B = Played} (λ (x : ℕ). Finish (record { 0 = x })) (ran .finish ∙ ap (finishOf (asModel g)) times))
+
+      pub handed-over : table (place (w .finishes)) (g .n) ≡ table (finishAt (asModel g) (timesOf l)) (g .n)
+      handed-over =
+          table-ext (place (w .finishes)) (finishAt (asModel g) (timesOf l)) (g .n)
+          (λ v h. ap (λ (x : List ℕ). getD x v 0) (ran .instants) ∙ padded-at 128 (finishAt (asModel g) (leftOf run)) (g .n) v h ∙ ap (λ (e : ℕ → ℕ). finishAt (asModel g) e v) times)

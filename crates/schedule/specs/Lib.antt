@@ -1,0 +1,6 @@
+-- What the entries give. Read in this order.
+pub mod Start
+pub mod Tick
+pub mod Whole
+-- What only private functions speak of.
+pub mod Leaps

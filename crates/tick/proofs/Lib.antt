@@ -1,0 +1,10 @@
+-- Laws that belong to no one function.
+pub mod Turns
+pub mod Filling
+pub mod Behind
+pub mod ByKind
+pub mod Standing
+pub mod Records
+pub mod Suiting
+pub mod Ticking
+pub mod Outcomes

@@ -1,0 +1,39 @@
+-- No public contract of this crate leaves a choice.
+use mathlib.Core.Path.{refl, sym, _∙_}
+use Rattle.outcome.specs.OneOutcome.{OneOutcome}
+use Rattle.vset.proofs.Same.{same-set}
+use Rattle.tick.proofs.Run.tick as tick
+use Rattle.tick.proofs.Run.tick.Reads as tick-reads
+use Rattle.tick.proofs.Run.advance as advance
+use Rattle.tick.proofs.Run.advance.Reads as advance-reads
+use Rattle.tick.proofs.suits as suits
+use Rattle.tick.proofs.suits.Reads as suits-reads
+use Rattle.tick.proofs.ready.busy as busy
+use Rattle.tick.proofs.ready.busy.Reads as busy-reads
+use Rattle.tick.proofs.ready.behind as behind
+use Rattle.tick.proofs.ready.behind.Reads as behind-reads
+use Rattle.tick.proofs.choice.chosen as chosen
+use Rattle.tick.proofs.choice.chosen.Reads as chosen-reads
+use Rattle.tick.proofs.choice.fair as fair
+use Rattle.tick.proofs.choice.fair.Reads as fair-reads
+
+pub tick-one : OneOutcome tick.ended tick-reads.Pre tick-reads.Post
+tick-one κs a r r′ ws ws′ pre p q = (p ∙ sym q, refl)
+
+pub advance-one : OneOutcome advance.ended advance-reads.Pre advance-reads.Post
+advance-one κs a r r′ ws ws′ pre p q = (p ∙ sym q, refl)
+
+pub suits-one : OneOutcome suits.ended suits-reads.Pre suits-reads.Post
+suits-one κs a r r′ ws ws′ pre p q = (p ∙ sym q, refl)
+
+pub busy-one : OneOutcome busy.ended busy-reads.Pre busy-reads.Post
+busy-one κs a r r′ ws ws′ pre p q = (same-set r r′ _ p q, refl)
+
+pub behind-one : OneOutcome behind.ended behind-reads.Pre behind-reads.Post
+behind-one κs a r r′ ws ws′ pre p q = (same-set r r′ _ p q, refl)
+
+pub chosen-one : OneOutcome chosen.ended chosen-reads.Pre chosen-reads.Post
+chosen-one κs a r r′ ws ws′ pre p q = (same-set r r′ _ p q, refl)
+
+pub fair-one : OneOutcome fair.ended fair-reads.Pre fair-reads.Post
+fair-one κs a r r′ ws ws′ pre p q = (p ∙ sym q, refl)

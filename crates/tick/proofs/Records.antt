@@ -1,0 +1,51 @@
+-- The run record and the state that it stands for: a record moved on is the record of the state moved on.
+use mathlib.Core.Path.{_≡_, refl, sym, ap, ap₂, _∙_, fun-ext}
+use mathlib.Core.Logic.{_⊎_, inl, inr, ⊎-elim}
+use mathlib.Core.List.{List}
+use mathlib.Core.Bool.{Bool, true, false, _&&_}
+use Prim.Native.Nat.{ℕ, _+_, _-_, _≤_, _<_}
+use native.Mathlib.Omega.{arith}
+use lib.Dec.{ltb}
+use lib.ListN.{getD}
+use Rattle.model.specs.Places.{pick, padded}
+use Rattle.model.specs.Graph.{Graph}
+use Rattle.model.specs.ListSchedule.{State, chosen, leap}
+use Rattle.model.proofs.Bools.{cases, le-or-lt}
+use Rattle.model.proofs.Tables.{padded-at, padded-past}
+use Rattle.vset.specs.declared.Vset.{Vset}
+use Rattle.vset.specs.Members.{Members}
+use Rattle.vset.proofs.Gather.{members-ext}
+use Rattle.vset.proofs.Same.{set-of, set-in}
+use Rattle.tick.specs.declared.Run.{Run}
+use Rattle.tick.specs.Run.{leftOf, stateOf, recordOf, after}
+use Rattle.tick.specs.Ready.{someLeft}
+use Rattle.tick.specs.Remains.{lowered}
+
+-- where a record that the code has moved on has the remainders and marks of d more ticks
+pub moved-on : (r : Run) (on : ℕ → Bool) (d : ℕ) (next : List ℕ) (still : Vset) → ((v : ℕ) → on v ≡ true → v < r .n)
+    → next ≡ padded 128 (lowered (r .left) on d) (r .n) → Members still (λ v. on v && someLeft next v)
+    → _≡_ {A = Run} (record { n = r .n; instant = r .instant + d; left = next; ran = still }) (recordOf (r .n) (r .instant + d) (after on d (stateOf r)))
+unfolding recordOf after stateOf leftOf lowered someLeft
+moved-on r on d next still below e m =
+    ap₂ {C = Run} (λ (x : List ℕ) (y : Vset). record { n = r .n; instant = r .instant + d; left = x; ran = y }) e
+    (set-of still (after on d (stateOf r) .ran) (members-ext still (λ v. on v && someLeft next v) (after on d (stateOf r) .ran) m (λ v. mark v (cases (on v)))))
+  where
+    mark : (v : ℕ) → (on v ≡ true) ⊎ (on v ≡ false) → on v && ltb 0 (getD next v 0) ≡ on v && ltb 0 (getD (r .left) v 0 - pick (on v) d 0)
+    mark v (inl t) =
+        let b = below v t in
+        ap (λ (x : ℕ). on v && ltb 0 x) (ap (λ (l : List ℕ). getD l v 0) e ∙ padded-at 128 (lowered (r .left) on d) (r .n) v b)
+    mark v (inr f) = rw f refl
+
+-- a leap is so many ticks of those that are chosen
+pub after-leap : (G : Graph) (d : ℕ) (s : State) (on : ℕ → Bool) → ((v : ℕ) → on v ≡ chosen G s v) → after on d s ≡ leap G d s
+unfolding after leap
+after-leap G d s on e = ap (λ (p : ℕ → Bool). after p d s) (fun-ext e)
+
+-- the state of the record of a state, where places from n on are zero and unmarked
+pub state-record : (n t : ℕ) (s : State) → n ≤ 128 → ((v : ℕ) → n ≤ v → s .rest v ≡ 0) → ((v : ℕ) → n ≤ v → s .ran v ≡ false)
+    → stateOf (recordOf n t s) ≡ s
+unfolding stateOf recordOf leftOf
+state-record n t s l zero none =
+    ap₂ {C = State} (λ (x : ℕ → ℕ) (y : ℕ → Bool). record { rest = x; ran = y })
+    (fun-ext (λ v. ⊎-elim (λ (h : n ≤ v). padded-past 128 (s .rest) n v h ∙ sym (zero v h)) (λ (h : v < n). padded-at 128 (s .rest) n v h) (le-or-lt n v)))
+    (fun-ext (λ v. set-in (s .ran) (λ k h. none k (omega arith)) v))

@@ -1,0 +1,202 @@
+-- The test `suits` tells document 01's sentence, and is what the code tests.
+use mathlib.Core.Path.{_≡_, sym, ap, _∙_}
+use mathlib.Core.Logic.{_⊎_, inl, inr, ⊎-elim}
+use mathlib.Core.Bool.{Bool, true, false, not, _&&_, _||_}
+use Prim.Native.Nat.{ℕ, _+_, _≤_, _<_, zero-le}
+use native.Mathlib.Omega.{arith}
+use lib.Dec.{eqb, ltb, leb}
+use lib.ListN.{getD, length, List·getD-eq-default}
+use borrow.Author.Tests.{lt-ltb, le-ltb, le-leb, leb-true, eqb-true, eq-eqb}
+use Rattle.model.specs.Places.{every, any, sum}
+use Rattle.model.specs.ListSchedule.{ready}
+use Rattle.model.proofs.Bools.{cases, clash, le-or-lt, not-true, true-not, not-is-true, both, left-of, right-of, or-left, or-right, or-cases, imp, imp-intro, same-test}
+use Rattle.model.proofs.Places.{every-at, every-intro, any-none, any-false}
+use Rattle.model.proofs.Tests.{ready-tells}
+use Rattle.graph.specs.declared.Graph.{Graph}
+use Rattle.graph.specs.Model.{asModel, AcceptedGraph}
+use Rattle.vset.specs.Members.{isIn}
+use Rattle.tick.specs.declared.Run.{Run}
+use Rattle.tick.specs.Run.{MOST, leftOf}
+use Rattle.tick.specs.Ready.{someLeft, isBehind}
+use Rattle.tick.specs.Remains.{noMore}
+use Rattle.tick.specs.Choice.{fairOf}
+use Rattle.tick.specs.Suits.{suits, Suits}
+use Rattle.tick.proofs.ByKind.{fair-sound, fair-complete}
+use Rattle.tick.proofs.Standing.{ready-is}
+
+module _ (g : Graph) (r : Run) where
+  abbrev within : Bool
+  within = every (λ v. leb (leftOf r v) (getD (g .wcet) v 0)) (g .n)
+
+  abbrev timely : Bool
+  timely = leb (r .instant + sum (leftOf r) (g .n)) MOST
+
+  abbrev marked : Bool
+  marked = every (λ v. not (isIn (r .ran) v) || ready (asModel g) (leftOf r) v) (g .n)
+
+  abbrev unused : Bool
+  unused = every (λ v. ltb v (g .n) || (eqb (leftOf r v) 0 && not (isIn (r .ran) v))) 128
+
+  -- the six tests one by one
+  pub record Passed : Type 0 where
+    pub agrees : eqb (r .n) (g .n) ≡ true
+    pub no-more : within ≡ true
+    pub in-time : timely ≡ true
+    pub ready-marks : marked ≡ true
+    pub fair : fairOf g (isIn (r .ran)) ≡ true
+    pub past : unused ≡ true
+
+  pub passed : suits g r ≡ true → Passed
+  unfolding suits
+  passed t =
+      let a = right-of (eqb (r .n) (g .n)) (within && (timely && (marked && (fairOf g (isIn (r .ran)) && unused)))) t in
+      let b = right-of within (timely && (marked && (fairOf g (isIn (r .ran)) && unused))) a in
+      let c = right-of timely (marked && (fairOf g (isIn (r .ran)) && unused)) b in
+      let d = right-of marked (fairOf g (isIn (r .ran)) && unused) c in
+      record {
+        agrees = left-of (eqb (r .n) (g .n)) (within && (timely && (marked && (fairOf g (isIn (r .ran)) && unused)))) t;
+        no-more = left-of within (timely && (marked && (fairOf g (isIn (r .ran)) && unused))) a;
+        in-time = left-of timely (marked && (fairOf g (isIn (r .ran)) && unused)) b;
+        ready-marks = left-of marked (fairOf g (isIn (r .ran)) && unused) c;
+        fair = left-of (fairOf g (isIn (r .ran))) unused d;
+        past = right-of (fairOf g (isIn (r .ran))) unused d;
+      }
+
+  pub all-passed : Passed → suits g r ≡ true
+  unfolding suits
+  all-passed p =
+      both (eqb (r .n) (g .n)) (within && (timely && (marked && (fairOf g (isIn (r .ran)) && unused)))) (p .agrees)
+      (both within (timely && (marked && (fairOf g (isIn (r .ran)) && unused))) (p .no-more)
+      (both timely (marked && (fairOf g (isIn (r .ran)) && unused)) (p .in-time)
+      (both marked (fairOf g (isIn (r .ran)) && unused) (p .ready-marks) (both (fairOf g (isIn (r .ran))) unused (p .fair) (p .past)))))
+
+  -- places from N on
+  pub zero-from : Passed → (v : ℕ) → g .n ≤ v → v < 128 → (leftOf r v ≡ 0) × (isIn (r .ran) v ≡ false)
+  zero-from p v l h =
+      go (or-cases (ltb v (g .n)) (eqb (leftOf r v) 0 && not (isIn (r .ran) v)) (every-at (λ v. ltb v (g .n) || (eqb (leftOf r v) 0 && not (isIn (r .ran) v))) 128 (p .past) v h))
+    where
+      go : (ltb v (g .n) ≡ true) ⊎ (eqb (leftOf r v) 0 && not (isIn (r .ran) v) ≡ true) → (leftOf r v ≡ 0) × (isIn (r .ran) v ≡ false)
+      go (inl t) = absurd (clash t (le-ltb v (g .n) l))
+      go (inr t) = (
+        eqb-true (leftOf r v) 0 (left-of (eqb (leftOf r v) 0) (not (isIn (r .ran) v)) t),
+        not-is-true (isIn (r .ran) v) (right-of (eqb (leftOf r v) 0) (not (isIn (r .ran) v)) t),
+      )
+
+  pub nothing-left : Passed → length (r .left) ≡ 128 → (v : ℕ) → g .n ≤ v → leftOf r v ≡ 0
+  unfolding leftOf
+  nothing-left p long v l =
+      ⊎-elim (λ (h : 128 ≤ v). List·getD-eq-default (r .left) 0 (omega arith)) (λ (h : v < 128). zero-from p v l h .0) (le-or-lt 128 v)
+
+  module _ (A : AcceptedGraph g) where
+    -- THEOREM. The test tells the sentence.
+    pub suits-sound : suits g r ≡ true → Suits g r
+    unfolding asModel
+    suits-sound t =
+        let p = passed t in
+        record {
+          agrees = eqb-true (r .n) (g .n) (p .agrees);
+          no-more = λ v l. leb-true (leftOf r v) (getD (g .wcet) v 0) (every-at (λ v. leb (leftOf r v) (getD (g .wcet) v 0)) (g .n) (p .no-more) v l);
+          in-time = leb-true (r .instant + sum (leftOf r) (g .n)) MOST (p .in-time);
+          marked-ready = λ v l m. ready-tells (A .well-formed) (leftOf r) (A .acyclic) .sound v l
+              (imp (isIn (r .ran) v) (ready (asModel g) (leftOf r) v) (every-at (λ v. not (isIn (r .ran) v) || ready (asModel g) (leftOf r) v) (g .n) (p .ready-marks) v l) m);
+          few-marked = fair-sound g r (p .fair);
+          zero-past = λ v l h. zero-from p v l h .0;
+          unmarked-past = λ v l h. zero-from p v l h .1;
+        }
+
+    pub suits-complete : Suits g r → suits g r ≡ true
+    unfolding asModel
+    suits-complete s = all-passed (record {
+      agrees = eq-eqb (r .n) (g .n) (s .agrees);
+      no-more = every-intro (λ v. leb (leftOf r v) (getD (g .wcet) v 0)) (g .n) (λ v l. le-leb (leftOf r v) (getD (g .wcet) v 0) (s .no-more v l));
+      in-time = le-leb (r .instant + sum (leftOf r) (g .n)) MOST (s .in-time);
+      ready-marks = every-intro (λ v. not (isIn (r .ran) v) || ready (asModel g) (leftOf r) v) (g .n)
+          (λ v l. imp-intro (isIn (r .ran) v) (ready (asModel g) (leftOf r) v) (λ m. ready-tells (A .well-formed) (leftOf r) (A .acyclic) .complete v l (s .marked-ready v l m)));
+      fair = fair-complete g r (s .few-marked);
+      past = every-intro (λ v. ltb v (g .n) || (eqb (leftOf r v) 0 && not (isIn (r .ran) v))) 128 (λ v h.
+          ⊎-elim
+          (λ (l : g .n ≤ v). or-right (ltb v (g .n)) (eqb (leftOf r v) 0 && not (isIn (r .ran) v))
+          (both (eqb (leftOf r v) 0) (not (isIn (r .ran) v)) (eq-eqb (leftOf r v) 0 (s .zero-past v l h)) (true-not (isIn (r .ran) v) (s .unmarked-past v l h))))
+          (λ (l : v < g .n). or-left (ltb v (g .n)) (eqb (leftOf r v) 0 && not (isIn (r .ran) v)) (lt-ltb v (g .n) l))
+          (le-or-lt (g .n) v));
+    })
+
+    -- ---- the tests of the code
+
+    -- able: ready by the code's sets
+    module _ (able : ℕ → Bool) (is-able : (v : ℕ) → able v ≡ someLeft (r .left) v && not (isBehind (asModel g) (someLeft (r .left)) v)) where
+      able-below : (v : ℕ) → v < g .n → able v ≡ ready (asModel g) (leftOf r) v
+      unfolding leftOf someLeft asModel
+      able-below v l = is-able v ∙ sym (ready-is (A .well-formed) (A .acyclic) (leftOf r) v l)
+
+      able-past : (v : ℕ) → leftOf r v ≡ 0 → able v ≡ false
+      unfolding leftOf someLeft
+      able-past v z = is-able v ∙ ap (λ (b : Bool). b && not (isBehind (asModel g) (someLeft (r .left)) v)) (ap (ltb 0) z ∙ le-ltb 0 0 zero-le)
+
+      abbrev new : ℕ → Bool
+      new v = isIn (r .ran) v && not (able v)
+
+      abbrev tested : Bool
+      tested = eqb (r .n) (g .n) && (every (noMore (r .left) (g .wcet)) 128 && (timely && (not (any new 128) && fairOf g (isIn (r .ran)))))
+
+      to : suits g r ≡ true → tested ≡ true
+      unfolding noMore leftOf
+      to t =
+          let p = passed t in
+          both (eqb (r .n) (g .n)) (every (noMore (r .left) (g .wcet)) 128 && (timely && (not (any new 128) && fairOf g (isIn (r .ran))))) (p .agrees)
+          (both (every (noMore (r .left) (g .wcet)) 128) (timely && (not (any new 128) && fairOf g (isIn (r .ran)))) (every-intro (noMore (r .left) (g .wcet)) 128 (low p))
+          (both timely (not (any new 128) && fairOf g (isIn (r .ran))) (p .in-time)
+          (both (not (any new 128)) (fairOf g (isIn (r .ran))) (true-not (any new 128) (any-none new 128 (mark p))) (p .fair))))
+        where
+          low : Passed → (v : ℕ) → v < 128 → leb (getD (r .left) v 0) (getD (g .wcet) v 0) ≡ true
+          low p v h =
+              ⊎-elim
+              (λ (l : g .n ≤ v). le-leb (getD (r .left) v 0) (getD (g .wcet) v 0) (omega (arith, zero-from p v l h .0)))
+              (λ (l : v < g .n). every-at (λ v. leb (leftOf r v) (getD (g .wcet) v 0)) (g .n) (p .no-more) v l)
+              (le-or-lt (g .n) v)
+
+          mark : Passed → (v : ℕ) → v < 128 → isIn (r .ran) v && not (able v) ≡ false
+          mark p v h = not-true (isIn (r .ran) v && not (able v)) (λ x.
+              let m = left-of (isIn (r .ran) v) (not (able v)) x in
+              ⊎-elim
+              (λ (l : g .n ≤ v). clash m (zero-from p v l h .1))
+              (λ (l : v < g .n). clash (able-below v l ∙ imp (isIn (r .ran) v) (ready (asModel g) (leftOf r) v)
+              (every-at (λ v. not (isIn (r .ran) v) || ready (asModel g) (leftOf r) v) (g .n) (p .ready-marks) v l) m)
+              (not-is-true (able v) (right-of (isIn (r .ran) v) (not (able v)) x)))
+              (le-or-lt (g .n) v))
+
+      from : tested ≡ true → suits g r ≡ true
+      unfolding noMore leftOf
+      from t =
+          let a = right-of (eqb (r .n) (g .n)) (every (noMore (r .left) (g .wcet)) 128 && (timely && (not (any new 128) && fairOf g (isIn (r .ran))))) t in
+          let b = right-of (every (noMore (r .left) (g .wcet)) 128) (timely && (not (any new 128) && fairOf g (isIn (r .ran)))) a in
+          let d = right-of timely (not (any new 128) && fairOf g (isIn (r .ran))) b in
+          let e = left-of (every (noMore (r .left) (g .wcet)) 128) (timely && (not (any new 128) && fairOf g (isIn (r .ran)))) a in
+          let f = not-is-true (any new 128) (left-of (not (any new 128)) (fairOf g (isIn (r .ran))) d) in
+          all-passed (record {
+            agrees = left-of (eqb (r .n) (g .n)) (every (noMore (r .left) (g .wcet)) 128 && (timely && (not (any new 128) && fairOf g (isIn (r .ran))))) t;
+            no-more = every-intro (λ v. leb (leftOf r v) (getD (g .wcet) v 0)) (g .n) (λ v l. every-at (noMore (r .left) (g .wcet)) 128 e v (omega (arith, A .few-vertices)));
+            in-time = left-of timely (not (any new 128) && fairOf g (isIn (r .ran))) b;
+            ready-marks = every-intro (λ v. not (isIn (r .ran) v) || ready (asModel g) (leftOf r) v) (g .n)
+                (λ v l. imp-intro (isIn (r .ran) v) (ready (asModel g) (leftOf r) v) (λ m. sym (able-below v l) ∙ must f v (omega (arith, A .few-vertices)) m));
+            fair = right-of (not (any new 128)) (fairOf g (isIn (r .ran))) d;
+            past = every-intro (λ v. ltb v (g .n) || (eqb (leftOf r v) 0 && not (isIn (r .ran) v))) 128 (λ v h. out e f v h);
+          })
+        where
+          -- a mark is on a vertex that is able
+          must : any new 128 ≡ false → (v : ℕ) → v < 128 → isIn (r .ran) v ≡ true → able v ≡ true
+          must f v h m = ⊎-elim (λ x. x) (λ (x : able v ≡ false). absurd (clash (both (isIn (r .ran) v) (not (able v)) m (true-not (able v) x)) (any-false new 128 v h f))) (cases (able v))
+
+          out : every (noMore (r .left) (g .wcet)) 128 ≡ true → any new 128 ≡ false → (v : ℕ) → v < 128 → ltb v (g .n) || (eqb (getD (r .left) v 0) 0 && not (isIn (r .ran) v)) ≡ true
+          out e f v h =
+              ⊎-elim
+              (λ (l : g .n ≤ v).
+              let z : getD (r .left) v 0 ≡ 0 = omega (arith, leb-true (getD (r .left) v 0) (getD (g .wcet) v 0) (every-at (noMore (r .left) (g .wcet)) 128 e v h), A .wcet-past v l) in
+              or-right (ltb v (g .n)) (eqb (getD (r .left) v 0) 0 && not (isIn (r .ran) v))
+              (both (eqb (getD (r .left) v 0) 0) (not (isIn (r .ran) v)) (eq-eqb (getD (r .left) v 0) 0 z)
+              (true-not (isIn (r .ran) v) (not-true (isIn (r .ran) v) (λ m. clash (must f v h m) (able-past v z))))))
+              (λ (l : v < g .n). or-left (ltb v (g .n)) (eqb (getD (r .left) v 0) 0 && not (isIn (r .ran) v)) (lt-ltb v (g .n) l))
+              (le-or-lt (g .n) v)
+
+      pub tested-is : tested ≡ suits g r
+      tested-is = same-test tested (suits g r) from to
