@@ -1,0 +1,77 @@
+-- The worked cases of document 01: every line of the table is right, computed from the rules.
+use mathlib.Core.Path.{_≡_, refl}
+use mathlib.Core.Bool.{Bool, true, _&&_}
+use mathlib.Core.List.{List, [], _∷_}
+use Prim.Native.Nat.{ℕ, zero, suc, _<_, _/_}
+use native.Mathlib.Omega.{arith}
+use lib.Dec.{ltb}
+use lib.ListN.{getD}
+use borrow.Author.Tests.{ltb-true}
+use Rattle.model.specs.Places.{first, count, any, every, table, padded, sum, largest}
+use Rattle.model.specs.Graph.{source, sink}
+use Rattle.model.specs.Cycle.{walks, cyclic}
+use Rattle.model.specs.Bounds.{PARTS, vol, volume, mostCores, scaled}
+use Rattle.model.specs.ListSchedule.{finishedWithin, finished, ready, goesOn, waits, chosen, leap, steps}
+use Rattle.model.proofs.Bools.{left-of, right-of}
+use Rattle.graph.specs.File.{wordAt, keyAt, order, isOrder, many, ordinal, column, words, keys, graphOf}
+use Rattle.graph.specs.Model.{from, to, joins, asModel}
+use Rattle.graph.specs.Rules.{rule1, rule2, rule3, rule4, rule5, rule6, rule7, rule8, rule9, rule10, rule11, rule12, holds, places}
+use Rattle.graph.specs.Judge.{placeOf, applies, lowest, judgeFrom, readOf}
+use Rattle.graph.proofs.Accepted.{taken}
+use Rattle.paths.proofs.Computed.{aheadWithin, aheadOf, greatestOf, headOf, nextOf, stepsOf, leastOf}
+use Rattle.bounds.proofs.Computed.{oldOf, newOf, pathOf, old-b-computed, new-b-1-computed, path-computed}
+use Rattle.schedule.specs.Start.{tooLong, judgeTimes, startedOn, startOf}
+use Rattle.schedule.specs.Whole.{doneAt, finishAt, finishOf, playIn, playOn, playOf, finishesOf}
+use Rattle.claims.specs.Claims.{IsAccepted, graphIn}
+use Rattle.claims.specs.Worked as worked
+
+abbrev bytes : List ℕ → Bool
+bytes [] = true
+bytes (x ∷ s) = ltb x 256 && bytes s
+
+byte-at : (s : List ℕ) → bytes s ≡ true → (i : ℕ) → getD s i 0 < 256
+byte-at [] e i = omega arith
+byte-at (x ∷ s) e zero = ltb-true x 256 (left-of (ltb x 256) (bytes s) e)
+byte-at (x ∷ s) e (suc i) = byte-at s (right-of (ltb x 256) (bytes s) e) i
+
+-- what is computed from a file holds of it
+computed : (s : List ℕ) {old new ticks : ℕ} {path : List ℕ} → bytes s ≡ true → IsAccepted s → oldOf (graphIn s) ≡ old → newOf (graphIn s) ≡ new
+    → new / PARTS ≡ ticks → pathOf (graphIn s) ≡ path → worked.Bounded s old new ticks path
+computed s b a o n t p =
+    let A = taken s (byte-at s b) a in
+    record {
+      is-accepted = a;
+      has-old = rw o at (old-b-computed (A .well-formed) (A .acyclic));
+      has-new = rw n at (new-b-1-computed (A .well-formed) (A .acyclic));
+      has-ticks = t;
+      has-path = rw p at (path-computed (A .well-formed) (A .acyclic));
+    }
+
+-- THEOREM. Cases A to L.
+pub cases : worked.All worked.Right worked.table
+unfolding first count any every table padded sum largest source sink walks cyclic vol volume mostCores scaled finishedWithin finished ready goesOn waits chosen leap steps wordAt keyAt order isOrder many ordinal column words keys graphOf from to joins asModel rule1 rule2 rule3 rule4 rule5 rule6 rule7 rule8 rule9 rule10 rule11 rule12 holds places placeOf applies lowest judgeFrom readOf aheadWithin aheadOf greatestOf headOf nextOf stepsOf leastOf oldOf newOf pathOf tooLong judgeTimes startedOn startOf doneAt finishAt finishOf playIn playOn playOf finishesOf
+cases = (
+  computed worked.fileA refl refl refl refl refl refl,
+  (
+    record { answer = refl; lent = refl },
+    (
+      computed _ refl refl refl refl refl refl,
+      (
+        computed _ refl refl refl refl refl refl,
+        (
+          computed worked.fileD refl refl refl refl refl refl,
+          (
+            record { answer = refl; lent = refl },
+            (
+              record { answer = refl; lent = refl },
+              (
+                computed worked.fileF refl refl refl refl refl refl,
+                (record { answer = refl; lent = refl }, (refl, (refl, (refl, (refl, (refl, (refl, tt))))))),
+              ),
+            ),
+          ),
+        ),
+      ),
+    ),
+  ),
+)

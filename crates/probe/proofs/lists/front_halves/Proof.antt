@@ -1,0 +1,22 @@
+use mathlib.Core.Path.{sym}
+use lib.Seq.{length-take-le}
+use borrow.Author.Needs.{needs}
+use Rattle.probe.proofs.lists.front_halves.Statement.{statement}
+use Rattle.probe.proofs.lists.front_halves.Tie as tie
+use Rattle.probe.proofs.lists.front_halves.Reads as reads
+use Rattle.probe.proofs.lists.front_halves.Lts as lts
+
+-- src/lists.rt:95:26
+slice-aggregate-result : tie.Need-slice-aggregate-result
+slice-aggregate-result c = sym (length-take-le (c .before .before .args .n) (c .before .before .args .list .now) (c .before .if1 .taken))
+
+-- src/lists.rt:94:1
+returns : tie.Need-returns
+returns c = search needs
+
+-- src/lists.rt:94:1
+returns-2 : tie.Need-returns-2
+returns-2 c = search needs
+
+pub front-halves-spec : {M : Type 1} → statement M
+front-halves-spec = tie.close (tie.spec slice-aggregate-result returns returns-2)

@@ -1,0 +1,112 @@
+// Lists of wider numbers from a payload's bytes, low byte first; what is lent, preset; and whether the rest of a list is zero.
+ghost use Prim.Native.Nat.{_≤_};
+use crate::wire::word;
+
+pub(crate) fn smaller(a: usize, b: usize) -> usize
+    ensures { λ r. ⌜ (r ≤ a) × (r ≤ b) ⌝ }
+{
+    if a < b { a } else { b }
+}
+
+pub(crate) fn thirty_two(p: &[u8], at: usize) -> u32 {
+    word(p, at) as u32
+}
+
+fn half(x: u8) -> u16
+    ensures { λ r. ⌜ r ≤ 255 ⌝ }
+{
+    x as u16
+}
+
+fn sixteen(p: &[u8], at: usize) -> u16 {
+    if at < p.len() {
+        let low = half(p[at]);
+        if at + 1 < p.len() {
+            return low + 256 * half(p[at + 1]);
+        }
+        return low;
+    }
+    0
+}
+
+// Fills the first n places.
+pub(crate) fn words(p: &[u8], n: usize, list: &mut [u32]) {
+    let end = smaller(n, list.len());
+    let most = smaller(end, 16384);
+    for i in 0..most {
+        list[i] = thirty_two(p, 4 * i);
+    }
+}
+
+pub(crate) fn halves(p: &[u8], n: usize, list: &mut [u16]) {
+    let end = smaller(n, list.len());
+    let most = smaller(end, 32768);
+    for i in 0..most {
+        list[i] = sixteen(p, 2 * i);
+    }
+}
+
+// Before a call each byte of a lent list is A5 hex, so an untouched place shows 165, and one of 32 bits 2779096485.
+pub(crate) fn preset_bytes(list: &mut [u8]) {
+    let n = list.len();
+    for i in 0..n {
+        list[i] = 0xA5;
+    }
+}
+
+pub(crate) fn preset_words(list: &mut [u32]) {
+    let n = list.len();
+    for i in 0..n {
+        list[i] = 0xA5A5A5A5;
+    }
+}
+
+// Whether all places from n on are zero.
+pub(crate) fn bytes_end(list: &[u8], n: usize) -> bool {
+    let mut zero = true;
+    for i in n..list.len() {
+        zero = zero & (list[i] == 0);
+    }
+    zero
+}
+
+pub(crate) fn halves_end(list: &[u16], n: usize) -> bool {
+    let mut zero = true;
+    for i in n..list.len() {
+        zero = zero & (list[i] == 0);
+    }
+    zero
+}
+
+pub(crate) fn words_end(list: &[u32], n: usize) -> bool {
+    let mut zero = true;
+    for i in n..list.len() {
+        zero = zero & (list[i] == 0);
+    }
+    zero
+}
+
+// The first n places of a list, or all where there are fewer: what is lent, or handed on.
+pub(crate) fn front_words(list: &[u32], n: usize) -> &[u32] {
+    if n <= list.len() { &list[..n] } else { list }
+}
+
+pub(crate) fn front_halves(list: &[u16], n: usize) -> &[u16] {
+    if n <= list.len() { &list[..n] } else { list }
+}
+
+pub(crate) fn lend_bytes(list: &mut [u8], n: usize) -> &mut [u8] {
+    if n <= list.len() {
+        &mut list[..n]
+    } else {
+        list
+    }
+}
+
+pub(crate) fn lend_words(list: &mut [u32], n: usize) -> &mut [u32] {
+    if n <= list.len() {
+        &mut list[..n]
+    } else {
+        list
+    }
+}

@@ -1,0 +1,228 @@
+//! The requests that are asked for every seed: the worked cases, and every limit from both sides.
+
+use super::graphs::{chain, exactly};
+use super::lists::{edge, file_of as file_of_records, lists_of, records_of};
+use super::random::Random;
+use super::request::{self, Request, LARGEST_ROOM, LONGEST_PAYLOAD};
+use crate::reference::graph::{Graph, LONGEST_FILE, MOST_WCET};
+use crate::reference::record::{RunRecord, LATEST};
+use crate::reference::schedule::{record_at, spans};
+use crate::reference::writer::{file_of, Lists};
+
+pub fn catalogue() -> Vec<Request> {
+    let mut requests = Vec::new();
+    worked_cases().iter().for_each(|file| requests.extend(questions_of(file)));
+    good_limits().iter().for_each(|graph| requests.extend(questions_of_graph(graph)));
+    broken_limits().iter().for_each(|lists| requests.extend(questions_of_lists(lists)));
+    odd_lengths().iter().for_each(|file| requests.extend(questions_of(file)));
+    requests.extend(wide_requests());
+    requests.extend(ticks_of_small_runs());
+    requests.extend(instants_at_the_limit());
+    requests
+}
+
+/// Case A of document 01: two types of 2 and 3 cores.
+pub fn case_a() -> Lists {
+    Lists {
+        cores: vec![2, 3],
+        kinds: vec![0, 1, 0, 1],
+        wcets: vec![4, 9, 6, 3],
+        edges: vec![edge(0, 1), edge(0, 2), edge(1, 3), edge(2, 3)],
+    }
+}
+
+/// Case D: two types of one core, so that all scaled weights are 0.
+pub fn case_d() -> Lists {
+    Lists {
+        cores: vec![1, 1],
+        kinds: vec![0, 0, 1, 1, 1, 0, 0],
+        wcets: vec![0, 3, 2, 5, 1, 6, 0],
+        edges: [(0, 1), (0, 2), (1, 3), (2, 4), (3, 6), (4, 5), (5, 6)].map(|(u, v)| edge(u, v)).to_vec(),
+    }
+}
+
+pub fn case_f() -> Lists {
+    Lists { cores: vec![1], kinds: vec![0], wcets: vec![0], edges: vec![] }
+}
+
+fn worked_cases() -> Vec<Vec<u8>> {
+    let altered = |change: &dyn Fn(&mut Lists)| {
+        let mut lists = case_a();
+        change(&mut lists);
+        lists
+    };
+    let cases = [
+        case_a(),
+        altered(&|a| a.cores[0] = 4),
+        altered(&|a| a.cores[0] = 16),
+        case_d(),
+        case_f(),
+        altered(&|a| a.edges.push(edge(3, 0))),
+        altered(&|a| a.edges.retain(|&e| e != edge(0, 2))),
+        altered(&|a| a.edges.insert(0, edge(0, 1))),
+    ];
+    cases.iter().map(|lists| file_of_records(&records_of(lists))).collect()
+}
+
+fn good_limits() -> Vec<Graph> {
+    let random = &mut Random::new(0, 0);
+    vec![
+        exactly(random, 10, 128, 1_024),
+        exactly(random, 10, 128, 127),
+        exactly(random, 10, 10, 20),
+        exactly(random, 1, 128, 300),
+        exactly(random, 3, 46, 1_024),
+        chain(128, 16, MOST_WCET),
+        chain(128, 1, MOST_WCET),
+        chain(2, 16, 1),
+        chain(1, 16, MOST_WCET),
+        chain(64, 3, 1),
+        chain(65, 3, 0),
+    ]
+}
+
+/// One step over each limit; the file with 10 types, 128 vertices and 1,025 edges is too long, so there it is 1.
+fn broken_limits() -> Vec<Lists> {
+    let random = &mut Random::new(0, 1);
+    let with = |graph: Graph, change: &dyn Fn(&mut Lists)| {
+        let mut lists = lists_of(&graph);
+        change(&mut lists);
+        lists
+    };
+    let add_vertex = |l: &mut Lists| {
+        l.kinds.push(0);
+        l.wcets.push(0);
+    };
+    vec![
+        with(exactly(random, 10, 20, 60), &|l| l.cores.push(1)),
+        with(exactly(random, 10, 20, 60), &|l| l.cores = vec![0; 11]),
+        with(exactly(random, 2, 128, 127), &add_vertex),
+        with(exactly(random, 10, 128, 1_024), &add_vertex),
+        with(exactly(random, 10, 127, 1_024), &|l| l.edges.push(edge(126, 126))),
+        with(exactly(random, 9, 128, 1_024), &|l| l.edges.push(edge(127, 127))),
+        with(exactly(random, 10, 128, 1_024), &|l| l.edges.push(edge(127, 127))),
+        with(exactly(random, 1, 1, 0), &|l| l.wcets[0] = MOST_WCET + 1),
+        with(chain(128, 16, MOST_WCET), &|l| l.wcets[127] = MOST_WCET + 1),
+        with(chain(5, 16, 1), &|l| l.cores[0] = 17),
+        with(chain(5, 16, 1), &|l| l.cores[0] = 0),
+        with(chain(5, 16, 1), &|l| l.edges.insert(0, edge(0, 0))),
+        with(chain(5, 16, 1), &|l| l.edges.push(edge(4, 5))),
+        with(chain(2, 16, 1), &|l| l.edges.clear()),
+        with(chain(128, 2, 1), &|l| l.edges.push(edge(127, 0))),
+        Lists::default(),
+    ]
+}
+
+fn odd_lengths() -> Vec<Vec<u8>> {
+    let good = file_of(&exactly(&mut Random::new(0, 2), 10, 128, 1_024));
+    let longer = |extra: usize| [&good[..], &good[good.len() - 8..], &good][..].concat()[..good.len() + extra].to_vec();
+    vec![
+        vec![],
+        vec![0; 7],
+        vec![0; 8],
+        vec![0x54],
+        longer(1),
+        longer(8),
+        vec![0x54; LONGEST_FILE + 8],
+        vec![0; 3 * LONGEST_FILE],
+    ]
+}
+
+/// Each question about a file, where nothing is known of its graph.
+fn questions_of(file: &[u8]) -> Vec<Request> {
+    let n = file.chunks(8).filter(|r| r[0] == 0x56).count();
+    let times = vec![0; n];
+    let mut record = RunRecord::zero();
+    record.n = n as u64;
+    vec![
+        request::read(file),
+        request::bounds(file),
+        request::path(file, n),
+        request::path(file, n.saturating_sub(1)),
+        request::start(file, &times),
+        request::tick(file, &record),
+        request::tick_in_place(file, &record),
+        request::run(file, &times, n + 2),
+    ]
+}
+
+fn questions_of_graph(graph: &Graph) -> Vec<Request> {
+    let (file, lists, n) = (file_of(graph), lists_of(graph), graph.vertices());
+    let finish = spans(graph, &graph.wcets).iter().map(|s| s.end).max().unwrap_or(0);
+    let middle = record_at(graph, &graph.wcets, finish / 2);
+    let mut requests = questions_of(&file);
+    requests.extend([-1, 0, 1].map(|more: isize| request::write(&lists, file.len().saturating_add_signed(more))));
+    requests.extend([-1, 0, 1].map(|more: isize| request::run(&file, &graph.wcets, n.saturating_add_signed(more))));
+    requests.push(request::start(&file, &graph.wcets));
+    requests.push(request::tick(&file, &middle));
+    requests.push(request::tick_in_place(&file, &middle));
+    requests
+}
+
+fn questions_of_lists(lists: &Lists) -> Vec<Request> {
+    let file = file_of_records(&records_of(lists));
+    let mut requests = questions_of(&file);
+    requests.push(request::write(lists, file.len()));
+    requests.push(request::write(lists, 0));
+    requests
+}
+
+/// Payloads and rooms as large as a request may have, and one larger.
+fn wide_requests() -> Vec<Request> {
+    let file = file_of_records(&records_of(&case_a()));
+    let mut requests = Vec::new();
+    for room in [LARGEST_ROOM, LARGEST_ROOM + 1] {
+        requests.push(request::write(&case_a(), room));
+        requests.push(request::path(&file, room));
+        requests.push(request::run(&file, &[4, 9, 6, 3], room));
+    }
+    for longer in [0, 1] {
+        requests.push(request::read(&vec![0x56; LONGEST_PAYLOAD - 4 + longer]));
+        requests.push(request::bounds(&vec![0x56; LONGEST_PAYLOAD - 4 + longer]));
+        let times = (LONGEST_PAYLOAD - 8 - file.len()) / 4 + longer;
+        requests.push(request::start(&file, &vec![0; times]));
+    }
+    requests.extend([Request::of(0), Request::of(b'R'), Request::of(b'?'), request::read(&[])]);
+    requests
+}
+
+/// Every tick of some small runs, the one after the end too.
+fn ticks_of_small_runs() -> Vec<Request> {
+    let random = &mut Random::new(0, 3);
+    let mut requests = Vec::new();
+    for _ in 0..12 {
+        let graph = exactly(random, 2, 7, 10);
+        let graph = Graph { wcets: graph.wcets.iter().map(|c| c % 5).collect(), ..graph };
+        let file = file_of(&graph);
+        let finish = spans(&graph, &graph.wcets).iter().map(|s| s.end).max().unwrap_or(0);
+        for instant in 0..=finish {
+            let record = record_at(&graph, &graph.wcets, instant);
+            requests.push(request::tick(&file, &record));
+            requests.push(request::tick_in_place(&file, &record));
+        }
+    }
+    requests
+}
+
+/// Instant and remainders exactly at the limit, above it, and so large that their sum would wrap.
+fn instants_at_the_limit() -> Vec<Request> {
+    let graph = chain(128, 16, MOST_WCET);
+    let file = file_of(&graph);
+    let mut requests = Vec::new();
+    for (left, instant) in [
+        (MOST_WCET, 0),
+        (MOST_WCET, 1),
+        (MOST_WCET, u64::MAX),
+        (MOST_WCET, 0u64.wrapping_sub(LATEST as u64)),
+        (1, LATEST as u64 - 128),
+        (1, LATEST as u64 - 127),
+        (1, 0u64.wrapping_sub(128)),
+        (0, LATEST as u64),
+        (0, LATEST as u64 + 1),
+    ] {
+        let record = RunRecord { n: 128, instant, remaining: [left; 128], ran: [0; 2] };
+        requests.push(request::tick(&file, &record));
+        requests.push(request::tick_in_place(&file, &record));
+    }
+    requests
+}

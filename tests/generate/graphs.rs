@@ -1,0 +1,129 @@
+//! Accepted graphs. A graph is first laid out in positions, edges going up, position 0 the source and the last one the
+//! sink; then the positions get vertex numbers in some order, so that edges go against the numbering too.
+
+use super::random::Random;
+use crate::reference::graph::{Graph, MOST_CORES, MOST_EDGES, MOST_KINDS, MOST_VERTICES, MOST_WCET};
+use std::collections::BTreeSet;
+
+/// Mostly small, as small graphs have the ties and the tight corners, but of every size.
+pub fn any(random: &mut Random) -> Graph {
+    let n = match random.below(20) {
+        0 => MOST_VERTICES,
+        1 => random.between(60, MOST_VERTICES),
+        2..=5 => random.between(13, 60),
+        _ => random.between(1, 12),
+    };
+    let wcet = random.pick(&[0, 1, 1, 3, 3, 5, 20, 20, 20, 1_000, MOST_WCET, MOST_WCET]);
+    of(random, n, wcet)
+}
+
+/// Of at least three vertices and few kinds, so that every fault can be planted within the longest file.
+pub fn to_be_damaged(random: &mut Random) -> Graph {
+    let n = random.between(3, 30);
+    let mut graph = of(random, n, 20);
+    graph.cores.truncate(4);
+    let k = graph.cores.len() as u8;
+    graph.kinds.iter_mut().for_each(|kind| *kind %= k);
+    graph
+}
+
+/// With n vertices and no WCET above the given one.
+pub fn of(random: &mut Random, n: usize, most_wcet: u32) -> Graph {
+    let kinds = random.pick(&[1, 1, 2, 2, 3, 4, MOST_KINDS]);
+    let extra = random.pick(&[0, 0, n / 2, 2 * n, 6 * n, 4 * MOST_EDGES]);
+    let layout = layout(random, n, MOST_EDGES, extra);
+    Graph {
+        cores: cores(random, kinds),
+        kinds: kinds_of_vertices(random, kinds, n),
+        wcets: wcets(random, n, most_wcet),
+        edges: numbered(random, n, &layout),
+    }
+}
+
+/// With exactly these counts; `edges` must be possible, from n - 1 on.
+pub fn exactly(random: &mut Random, kinds: usize, n: usize, edges: usize) -> Graph {
+    let mut layout: BTreeSet<(usize, usize)> = (1..n).map(|p| (p - 1, p)).collect();
+    while layout.len() < edges {
+        layout.extend(upward(random, n));
+    }
+    Graph {
+        cores: cores(random, kinds),
+        kinds: kinds_of_vertices(random, kinds, n),
+        wcets: wcets(random, n, MOST_WCET),
+        edges: numbered(random, n, &layout),
+    }
+}
+
+/// One vertex behind the other, in the order of their numbers.
+pub fn chain(n: usize, cores: u8, wcet: u32) -> Graph {
+    Graph {
+        cores: vec![cores],
+        kinds: vec![0; n],
+        wcets: vec![wcet; n],
+        edges: (1..n).map(|v| (v as u8 - 1, v as u8)).collect(),
+    }
+}
+
+/// Edges between positions: one into each but the first, one out of each but the last, and up to `extra` more.
+fn layout(random: &mut Random, n: usize, most: usize, extra: usize) -> BTreeSet<(usize, usize)> {
+    let mut edges = BTreeSet::new();
+    let reach = random.pick(&[1, 2, 4, n, n]);
+    let from_first = random.one_in(5);
+    for p in 1..n {
+        let from = if from_first { 0 } else { p - 1 - random.below(reach.min(p)) };
+        edges.insert((from, p));
+    }
+    for p in 0..n - 1 {
+        if !edges.iter().any(|&(from, _)| from == p) {
+            let to = if random.one_in(2) { n - 1 } else { p + 1 + random.below(reach.min(n - 1 - p)) };
+            edges.insert((p, to));
+        }
+    }
+    for _ in 0..extra {
+        if edges.len() < most {
+            edges.extend(upward(random, n));
+        }
+    }
+    edges
+}
+
+/// An edge between two positions, where there are two.
+fn upward(random: &mut Random, n: usize) -> Option<(usize, usize)> {
+    let (p, q) = (random.below(n), random.below(n));
+    (p != q).then_some((p.min(q), p.max(q)))
+}
+
+/// The positions' edges as edges between vertices: numbered upwards, downwards, or anyhow.
+fn numbered(random: &mut Random, n: usize, layout: &BTreeSet<(usize, usize)>) -> Vec<(u8, u8)> {
+    let mut number: Vec<u8> = (0..n as u8).collect();
+    match random.below(4) {
+        0 => {}
+        1 => number.reverse(),
+        _ => random.shuffle(&mut number),
+    }
+    let mut edges: Vec<(u8, u8)> = layout.iter().map(|&(p, q)| (number[p], number[q])).collect();
+    edges.sort_unstable();
+    edges
+}
+
+fn cores(random: &mut Random, kinds: usize) -> Vec<u8> {
+    let most = random.pick(&[1, 2, 3, MOST_CORES, MOST_CORES]);
+    (0..kinds).map(|_| random.between(1, most as usize) as u8).collect()
+}
+
+fn kinds_of_vertices(random: &mut Random, kinds: usize, n: usize) -> Vec<u8> {
+    // some declared kinds stay without a vertex
+    let used = random.between(1, kinds);
+    (0..n).map(|_| random.below(used) as u8).collect()
+}
+
+fn wcets(random: &mut Random, n: usize, most: u32) -> Vec<u32> {
+    let style = random.below(4);
+    let one = |random: &mut Random| match style {
+        0 => most,
+        1 if random.one_in(2) => 0,
+        2 if random.one_in(4) => most,
+        _ => random.between(0, most as usize) as u32,
+    };
+    (0..n).map(|_| one(random)).collect()
+}

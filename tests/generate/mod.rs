@@ -1,0 +1,23 @@
+//! Requests for the planner, good, bad and at every limit, all from a seed.
+//!
+//!   random     the generator of numbers
+//!   graphs     accepted graphs
+//!   lists      the writer's lists, and their file without any judging
+//!   faults     a fault planted for each number that says no
+//!   damage     blind damage to a file
+//!   runs       execution times and run records, fitting and not
+//!   request    how a request travels
+//!   catalogue  the worked cases and every limit, the same for each seed
+//!   malformed  requests that are none
+//!   stream     the request of each place for a seed
+
+pub mod catalogue;
+pub mod damage;
+pub mod faults;
+pub mod graphs;
+pub mod lists;
+pub mod malformed;
+pub mod random;
+pub mod request;
+pub mod runs;
+pub mod stream;

@@ -1,0 +1,153 @@
+//! The request of each place: first the catalogue, then random ones, each from the seed and its place alone. So nothing
+//! needs to be kept, and one request can be made again by itself.
+
+use super::catalogue::catalogue;
+use super::damage::damage;
+use super::faults::{file_with, plant};
+use super::graphs;
+use super::lists::lists_of;
+use super::malformed::spoilt;
+use super::random::Random;
+use super::request::{self, Request, LARGEST_ROOM};
+use super::runs::{any_times, damaged, reached, unreached};
+use crate::reference::graph::{Graph, RECORD};
+use crate::reference::writer::{file_of, Lists};
+
+pub struct Stream {
+    seed: u64,
+    catalogue: Vec<Request>,
+}
+
+impl Stream {
+    pub fn new(seed: u64) -> Stream {
+        Stream { seed, catalogue: catalogue() }
+    }
+
+    pub fn request(&self, place: u64) -> Request {
+        match self.catalogue.get(place as usize) {
+            Some(request) => request.clone(),
+            None => any_request(&mut Random::new(self.seed, place)),
+        }
+    }
+}
+
+fn any_request(random: &mut Random) -> Request {
+    let request = match random.below(16) {
+        0..=3 => request::read(&any_file(random, 3).1),
+        4..=5 => any_write(random),
+        6..=7 => request::bounds(&any_file(random, 8).1),
+        8..=9 => any_path(random),
+        10 => any_start(random),
+        11..=13 => any_tick(random),
+        _ => any_run(random),
+    };
+    if random.one_in(20) {
+        spoilt(random, request)
+    } else {
+        request
+    }
+}
+
+/// A graph and a file that is its own, but bad in about one of `good_for_bad` cases.
+fn any_file(random: &mut Random, good_for_bad: usize) -> (Graph, Vec<u8>) {
+    if !random.one_in(good_for_bad) {
+        let graph = graphs::any(random);
+        let file = file_of(&graph);
+        return (graph, file);
+    }
+    if random.one_in(3) {
+        let graph = graphs::any(random);
+        let mut file = file_of(&graph);
+        damage(random, &mut file);
+        return (graph, file);
+    }
+    let graph = graphs::to_be_damaged(random);
+    let numbers = [random.between(1, 12) as u32, random.between(1, 12) as u32];
+    let many = random.between(1, 2);
+    let file = file_with(random, &lists_of(&graph), &numbers[..many]);
+    (graph, file)
+}
+
+/// A room around what is needed, or far above.
+fn any_room(random: &mut Random, needed: usize) -> usize {
+    if random.one_in(500) {
+        return LARGEST_ROOM;
+    }
+    let more = needed + random.below(20);
+    random.pick(&[0, needed / 2, needed.saturating_sub(1), needed, needed, needed + 1, more])
+}
+
+fn any_write(random: &mut Random) -> Request {
+    let mut lists;
+    if random.one_in(2) {
+        lists = lists_of(&graphs::any(random));
+    } else {
+        lists = lists_of(&graphs::to_be_damaged(random));
+        let (a, b) = (random.between(3, 12) as u32, random.between(3, 12) as u32);
+        plant(random, &mut lists, in_writer(a.max(b)));
+        if a != b && random.one_in(2) {
+            plant(random, &mut lists, in_writer(a.min(b)));
+        }
+    }
+    if random.one_in(60) {
+        lengthen(random, &mut lists);
+    }
+    let length = (lists.cores.len() + lists.kinds.len() + lists.edges.len()) * RECORD;
+    request::write(&lists, any_room(random, length).min(LARGEST_ROOM))
+}
+
+/// The writer has no 3; 13 stands in its place there, before 4.
+fn in_writer(number: u32) -> u32 {
+    if number == 3 {
+        13
+    } else {
+        number
+    }
+}
+
+/// Lists far too long, with numbers and places that no byte holds.
+fn lengthen(random: &mut Random, lists: &mut Lists) {
+    let many = random.pick(&[255, 256, 257, 300, 1_000, 5_000]);
+    match random.below(4) {
+        0 => lists.cores.resize(many, 1),
+        1 => lists.kinds.resize(many, 0),
+        2 => lists.edges.resize(many, random.next() as u16),
+        _ => {
+            lists.kinds.resize(many, 0);
+            lists.wcets.resize(many, 0);
+        }
+    }
+}
+
+fn any_path(random: &mut Random) -> Request {
+    let (graph, file) = any_file(random, 8);
+    request::path(&file, any_room(random, graph.vertices()))
+}
+
+fn any_start(random: &mut Random) -> Request {
+    let (graph, file) = any_file(random, 8);
+    request::start(&file, &any_times(random, &graph))
+}
+
+fn any_tick(random: &mut Random) -> Request {
+    let (graph, file) = any_file(random, 8);
+    let record = match random.below(8) {
+        0..=3 => reached(random, &graph),
+        4 => unreached(random, &graph),
+        5 => {
+            let other = graphs::any(random);
+            reached(random, &other)
+        }
+        _ => damaged(random, &graph),
+    };
+    if random.one_in(2) {
+        request::tick(&file, &record)
+    } else {
+        request::tick_in_place(&file, &record)
+    }
+}
+
+fn any_run(random: &mut Random) -> Request {
+    let (graph, file) = any_file(random, 8);
+    request::run(&file, &any_times(random, &graph), any_room(random, graph.vertices()))
+}

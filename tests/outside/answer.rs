@@ -1,0 +1,193 @@
+//! The reference's line for a request.
+
+use crate::generate::request::{Request, LARGEST_ROOM, LONGEST_PAYLOAD};
+use crate::reference::bounds::{bounds, path};
+use crate::reference::reader::read;
+use crate::reference::record::RunRecord;
+use crate::reference::refusal::Refusal;
+use crate::reference::schedule::{run, start, tick, Ticked};
+use crate::reference::writer::{write, Lists};
+use std::fmt::Display;
+use std::io::{Read, Write};
+
+/// What each byte of a lent list holds before the call.
+const PRESET: u8 = 0xA5;
+const BAD: &str = "bad request";
+
+/// The line, without its line feed.
+pub fn answer(request: &Request) -> String {
+    if request.payload.len() > LONGEST_PAYLOAD {
+        return BAD.to_string();
+    }
+    let fields = Fields(&request.payload);
+    let line = match request.letter {
+        b'R' => answer_read(fields),
+        b'W' => answer_write(fields),
+        b'B' => answer_bounds(fields),
+        b'P' => answer_path(fields),
+        b'S' => answer_start(fields),
+        b'T' | b'I' => answer_tick(fields),
+        b'X' => answer_run(fields),
+        _ => None,
+    };
+    line.unwrap_or(BAD.to_string())
+}
+
+/// All lines for an input, which may end inside a request.
+pub fn answers(mut input: &[u8]) -> String {
+    let mut lines = String::new();
+    while !input.is_empty() {
+        let Some(length) = input.get(1..5) else {
+            return lines + BAD + "\n";
+        };
+        let length = u32::from_le_bytes(length.try_into().unwrap()) as usize;
+        let Some(payload) = input[5..].get(..length) else {
+            return lines + BAD + "\n";
+        };
+        lines += &answer(&Request { letter: input[0], payload: payload.to_vec() });
+        lines += "\n";
+        input = &input[5 + length..];
+    }
+    lines
+}
+
+/// Answers standard input as the probe would.
+pub fn answer_input() -> bool {
+    let mut input = Vec::new();
+    std::io::stdin().read_to_end(&mut input).expect("standard input can be read");
+    std::io::stdout().write_all(answers(&input).as_bytes()).is_ok()
+}
+
+/// The fields of a payload, taken from its front; None where the request isn't of its form.
+struct Fields<'a>(&'a [u8]);
+
+impl<'a> Fields<'a> {
+    fn take(&mut self, length: usize) -> Option<&'a [u8]> {
+        let (front, rest) = self.0.split_at_checked(length)?;
+        self.0 = rest;
+        Some(front)
+    }
+
+    fn list(&mut self) -> Option<&'a [u8]> {
+        let length = u32::from_le_bytes(self.take(4)?.try_into().ok()?);
+        self.take(length as usize)
+    }
+
+    fn list_of_words(&mut self) -> Option<Vec<u32>> {
+        let words = self.list()?.chunks(4).map(|w| Some(u32::from_le_bytes(w.try_into().ok()?)));
+        words.collect()
+    }
+
+    fn list_of_edges(&mut self) -> Option<Vec<u16>> {
+        let edges = self.list()?.chunks(2).map(|e| Some(u16::from_le_bytes(e.try_into().ok()?)));
+        edges.collect()
+    }
+
+    fn room(&mut self) -> Option<usize> {
+        let room = u64::from_le_bytes(self.take(8)?.try_into().ok()?);
+        (room <= LARGEST_ROOM as u64).then_some(room as usize)
+    }
+
+    fn end(self) -> Option<()> {
+        self.0.is_empty().then_some(())
+    }
+}
+
+fn answer_read(mut fields: Fields) -> Option<String> {
+    let file = fields.list()?;
+    fields.end()?;
+    Some(match read(file) {
+        Err(refusal) => format!("{} clean", refused(refusal)),
+        Ok(graph) => {
+            let (k, n, e) = (graph.cores.len(), graph.vertices(), graph.edges.len());
+            let edges = graph.edges.iter().map(|&(from, to)| from as u16 * 256 + to as u16);
+            let lists = [joined(&graph.cores), joined(&graph.kinds), joined(&graph.wcets), joined(edges)];
+            format!("graph {k} {n} {e}{} clean", lists.concat())
+        }
+    })
+}
+
+fn answer_write(mut fields: Fields) -> Option<String> {
+    let cores = fields.list()?.to_vec();
+    let kinds = fields.list()?.to_vec();
+    let wcets = fields.list_of_words()?;
+    let edges = fields.list_of_edges()?;
+    let room = fields.room()?;
+    fields.end()?;
+    let outcome = write(&Lists { cores, kinds, wcets, edges }, room);
+    Some(lent("wrote", outcome.map(|file| (file.len(), file)), room, PRESET))
+}
+
+fn answer_bounds(mut fields: Fields) -> Option<String> {
+    let file = fields.list()?;
+    fields.end()?;
+    Some(match read(file).map(|graph| bounds(&graph)) {
+        Err(refusal) => format!("{} old 0 new 0 ticks 0", refused(refusal)),
+        Ok(b) => format!("old {} new {} ticks {}", b.old, b.new, b.ticks),
+    })
+}
+
+fn answer_path(mut fields: Fields) -> Option<String> {
+    let file = fields.list()?;
+    let room = fields.room()?;
+    fields.end()?;
+    let outcome = read(file).and_then(|graph| path(&graph, room));
+    Some(lent("path", outcome.map(|path| (path.len(), path)), room, PRESET))
+}
+
+fn answer_start(mut fields: Fields) -> Option<String> {
+    let file = fields.list()?;
+    let times = fields.list_of_words()?;
+    fields.end()?;
+    Some(match read(file).and_then(|graph| start(&graph, &times)) {
+        Err(refusal) => format!("{} :{}", refused(refusal), shown(&RunRecord::zero())),
+        Ok(record) => format!("started :{}", shown(&record)),
+    })
+}
+
+fn answer_tick(mut fields: Fields) -> Option<String> {
+    let file = fields.list()?;
+    let record = RunRecord::from_bytes(fields.list()?)?;
+    fields.end()?;
+    Some(match read(file).and_then(|graph| tick(&graph, &record)) {
+        Err(refusal) => format!("{} :{}", refused(refusal), shown(&record)),
+        Ok((Ticked::Moved, next)) => format!("moved :{}", shown(&next)),
+        Ok((Ticked::Done, same)) => format!("done :{}", shown(&same)),
+    })
+}
+
+fn answer_run(mut fields: Fields) -> Option<String> {
+    let file = fields.list()?;
+    let times = fields.list_of_words()?;
+    let room = fields.room()?;
+    fields.end()?;
+    let outcome = read(file).and_then(|graph| run(&graph, &times, room));
+    let with_finish = outcome.map(|finishes| (finishes.iter().max().copied().unwrap_or(0) as usize, finishes));
+    Some(lent("finish", with_finish, room, u32::from_le_bytes([PRESET; 4])))
+}
+
+/// A word with its number, or a refusal, and all the lent places: the answer's first, the others as they were.
+fn lent<T: Copy + Display>(word: &str, outcome: Result<(usize, Vec<T>), Refusal>, room: usize, preset: T) -> String {
+    let mut places = vec![preset; room];
+    let head = match outcome {
+        Err(refusal) => refused(refusal),
+        Ok((number, list)) => {
+            places[..list.len()].copy_from_slice(&list);
+            format!("{word} {number}")
+        }
+    };
+    format!("{head} :{}", joined(&places))
+}
+
+fn refused(refusal: Refusal) -> String {
+    format!("refused {} at {}", refusal.number, refusal.place)
+}
+
+/// The record, with a blank before each number.
+fn shown(record: &RunRecord) -> String {
+    [joined([record.n, record.instant]), joined(record.remaining), joined(record.ran)].concat()
+}
+
+fn joined<T: Display>(list: impl IntoIterator<Item = T>) -> String {
+    list.into_iter().map(|item| format!(" {item}")).collect()
+}

@@ -1,0 +1,85 @@
+//! The reference alone: which answers its own requests get, and whether every one of them occurs.
+
+use crate::answer::{answer, answers};
+use crate::compare::cut_input;
+use crate::crosscheck;
+use crate::generate::request::Request;
+use crate::generate::stream::Stream;
+use crate::options::Options;
+use std::collections::BTreeMap;
+
+/// What can be answered to each letter. `-` is any request that isn't one.
+const POSSIBLE: [(char, &str, &[u32]); 9] = [
+    ('R', "graph", &[1, 2, 3, 4, 5, 6, 7, 8, 9, 10, 11, 12]),
+    ('W', "wrote", &[4, 5, 6, 7, 8, 9, 10, 11, 12, 13, 15]),
+    ('B', "old", &[1, 2, 3, 4, 5, 6, 7, 8, 9, 10, 11, 12]),
+    ('P', "path", &[1, 2, 3, 4, 5, 6, 7, 8, 9, 10, 11, 12, 15]),
+    ('S', "started", &[1, 2, 3, 4, 5, 6, 7, 8, 9, 10, 11, 12, 13, 14]),
+    ('T', "moved done", &[1, 2, 3, 4, 5, 6, 7, 8, 9, 10, 11, 12, 16]),
+    ('I', "moved done", &[1, 2, 3, 4, 5, 6, 7, 8, 9, 10, 11, 12, 16]),
+    ('X', "finish", &[1, 2, 3, 4, 5, 6, 7, 8, 9, 10, 11, 12, 13, 14, 15]),
+    ('-', "bad", &[]),
+];
+
+pub fn own_requests(options: &Options) -> bool {
+    let stream = Stream::new(options.seed);
+    let mut table: BTreeMap<(char, String), u64> = BTreeMap::new();
+    for place in 0..options.count {
+        *table.entry(cell(&stream.request(place))).or_default() += 1;
+    }
+    print_table(&table);
+    let mut faults = missing_and_impossible(&table);
+    faults.extend(crosscheck::faults(options));
+    if !(0..24).all(|place| answers(&cut_input(options.seed, place)).ends_with("bad request\n")) {
+        faults.push("an input that ends inside a request must end with `bad request`".to_string());
+    }
+    faults.iter().for_each(|fault| eprintln!("{fault}"));
+    println!("{} requests, {} faults", options.count, faults.len());
+    faults.is_empty()
+}
+
+/// The letter and the answer's kind: its word, or the number of a refusal.
+fn cell(request: &Request) -> (char, String) {
+    let line = answer(request);
+    let words: Vec<&str> = line.split(' ').collect();
+    match words[0] {
+        "bad" => ('-', "bad".to_string()),
+        "refused" => (request.letter as char, words[1].to_string()),
+        word => (request.letter as char, word.to_string()),
+    }
+}
+
+fn possible() -> Vec<(char, String)> {
+    let mut cells = Vec::new();
+    for (letter, words, numbers) in POSSIBLE {
+        cells.extend(words.split(' ').map(|word| (letter, word.to_string())));
+        cells.extend(numbers.iter().map(|number| (letter, number.to_string())));
+    }
+    cells
+}
+
+fn missing_and_impossible(table: &BTreeMap<(char, String), u64>) -> Vec<String> {
+    let possible = possible();
+    let missing = possible.iter().filter(|cell| !table.contains_key(cell));
+    let impossible = table.keys().filter(|cell| !possible.contains(cell));
+    let missing = missing.map(|(letter, kind)| format!("{letter} is never answered with {kind}"));
+    missing.chain(impossible.map(|(letter, kind)| format!("{letter} must not be answered with {kind}"))).collect()
+}
+
+fn print_table(table: &BTreeMap<(char, String), u64>) {
+    let count = |letter: char, kind: &str| table.get(&(letter, kind.to_string())).copied().unwrap_or(0);
+    print!("{:<3}{:>20}", "", "answered");
+    (1..=16).for_each(|number| print!("{number:>6}"));
+    println!();
+    for (letter, words, _) in POSSIBLE {
+        let answered: Vec<String> = words.split(' ').map(|word| format!("{word} {}", count(letter, word))).collect();
+        print!("{letter:<3}{:>20}", answered.join(", "));
+        for number in 1..=16 {
+            match count(letter, &number.to_string()) {
+                0 => print!("{:>6}", "."),
+                many => print!("{many:>6}"),
+            }
+        }
+        println!();
+    }
+}

@@ -1,0 +1,118 @@
+//! Demand 3 by experiment: work-conserving schedules that are no list schedules, with times from 0 to the WCETs. Each
+//! must finish by NEW-B-1, and NEW-B-1 must not exceed OLD-B.
+
+use crate::generate::graphs::of;
+use crate::generate::random::Random;
+use crate::generate::request;
+use crate::generate::runs::times;
+use crate::options::Options;
+use crate::probe::Probe;
+use crate::reference::bounds::{bounds, Bounds};
+use crate::reference::graph::{Graph, MOST_VERTICES, PARTS_IN_A_TICK};
+use crate::reference::order::topological;
+use crate::reference::record::{finished, ready};
+use crate::reference::writer::file_of;
+
+/// How the cores are given to the ready vertices, anew in each tick.
+#[derive(Clone, Copy)]
+enum Choice {
+    /// any of them
+    Any,
+    /// the same as in the tick before, but for a surprise now and then
+    MostlyKept,
+    /// those with the least work behind them, so that the longest chain waits
+    LongestLast,
+    /// the highest numbers
+    HighestFirst,
+}
+
+pub fn schedules(options: &Options) -> bool {
+    let seed = options.seed;
+    let pieces = (0..options.count).map(move |place| request::bounds(&file_of(&experiment(seed, place).0)).bytes());
+    let mut probe = (!options.command.is_empty()).then(|| Probe::start(&options.command, pieces));
+    let (mut beyond, mut nearest, mut at_the_tick) = (0, 0.0f64, 0);
+    for place in 0..options.count {
+        let (graph, mut random) = experiment(seed, place);
+        let times = times(&mut random, &graph);
+        let finish = finish_of(&mut random, &graph, &times);
+        let bounds = match &mut probe {
+            None => bounds(&graph),
+            Some(probe) => probed(probe.line()),
+        };
+        let parts = finish * PARTS_IN_A_TICK;
+        if parts > bounds.new || bounds.new > bounds.old || finish > bounds.ticks {
+            eprintln!("schedule {place} finishes at {finish} against {bounds:?}: {graph:?}, times {times:?}");
+            beyond += 1;
+        }
+        if bounds.new > 0 {
+            nearest = nearest.max(parts as f64 / bounds.new as f64);
+        }
+        at_the_tick += (finish == bounds.ticks) as u64;
+    }
+    println!(
+        "{} schedules, {beyond} beyond a bound; {at_the_tick} finish in NEW-B-1's last whole tick, the nearest at {:.1} per cent of it",
+        options.count,
+        nearest * 100.0
+    );
+    let ended_well = probe.map(Probe::end).unwrap_or(true);
+    beyond == 0 && ended_well
+}
+
+/// The graph of an experiment, and the numbers for all that follows.
+fn experiment(seed: u64, place: u64) -> (Graph, Random) {
+    let mut random = Random::new(seed ^ 0x5C4E_D01E, place);
+    let n = if random.one_in(40) { random.between(41, MOST_VERTICES) } else { random.between(1, 40) };
+    let most = random.pick(&[1, 2, 5, 20]);
+    (of(&mut random, n, most), random)
+}
+
+/// `old X new Y ticks Z`, or bounds that nothing keeps, so that any other answer is a fault.
+fn probed(line: Option<String>) -> Bounds {
+    let line = line.unwrap_or_default();
+    match line.split(' ').collect::<Vec<_>>()[..] {
+        ["old", old, "new", new, "ticks", ticks] => {
+            Bounds { old: old.parse().unwrap_or(0), new: new.parse().unwrap_or(1), ticks: ticks.parse().unwrap_or(0) }
+        }
+        _ => Bounds { old: 0, new: 1, ticks: 0 },
+    }
+}
+
+fn finish_of(random: &mut Random, graph: &Graph, times: &[u32]) -> u64 {
+    let behind = work_behind(graph);
+    let choice = random.pick(&[Choice::Any, Choice::MostlyKept, Choice::LongestLast, Choice::HighestFirst]);
+    let mut left = times.to_vec();
+    let mut ran = vec![false; graph.vertices()];
+    let mut instant = 0;
+    while !finished(graph, &left).iter().all(|&f| f) {
+        let ready = ready(graph, &left);
+        let mut runs = vec![false; graph.vertices()];
+        for (kind, &cores) in graph.cores.iter().enumerate() {
+            let mut waiting: Vec<usize> =
+                (0..graph.vertices()).filter(|&v| ready[v] && graph.kinds[v] as usize == kind).collect();
+            random.shuffle(&mut waiting);
+            match choice {
+                Choice::Any => {}
+                Choice::MostlyKept if random.one_in(6) => {}
+                Choice::MostlyKept => waiting.sort_by_key(|&v| !ran[v]),
+                Choice::LongestLast => waiting.sort_by_key(|&v| behind[v]),
+                Choice::HighestFirst => waiting.sort_by_key(|&v| MOST_VERTICES - v),
+            }
+            // work conserving: as many as there are cores or ready vertices, whichever are fewer
+            waiting.iter().take(cores as usize).for_each(|&v| runs[v] = true);
+        }
+        (0..graph.vertices()).filter(|&v| runs[v]).for_each(|v| left[v] -= 1);
+        ran = runs;
+        instant += 1;
+    }
+    instant
+}
+
+/// The most ticks from a vertex to the sink.
+fn work_behind(graph: &Graph) -> Vec<u64> {
+    let after = graph.successors();
+    let mut behind = vec![0; graph.vertices()];
+    for &v in topological(graph).iter().rev() {
+        behind[v] = graph.wcets[v] as u64 + after[v].iter().map(|&w| behind[w]).max().unwrap_or(0);
+    }
+    behind
+}

@@ -1,0 +1,26 @@
+//! The planner once more, in plain Rust, written from the documents alone.
+//!
+//! It is the witness that the proved planner is compared with, so it takes other ways wherever there are any: a
+//! search in depth for the cycle, sums in topological order, whole paths compared as lists, a run as a queue of
+//! finishes. Read in this order:
+//!
+//!   refusal   a number and a place
+//!   graph     an accepted graph
+//!   judge     numbers 4 to 12, over what a file or the writer's lists declare
+//!   reader    numbers 1 to 3, then judge; writer   number 13, then judge, then 15
+//!   order     cycle and topological order
+//!   bounds    OLD-B, NEW-B-1 and the least path
+//!   record    the run record, and which of them suit a graph (16)
+//!   schedule  start, tick, whole run
+//!   sheet     the program's text
+
+pub mod bounds;
+pub mod graph;
+pub mod judge;
+pub mod order;
+pub mod reader;
+pub mod record;
+pub mod refusal;
+pub mod schedule;
+pub mod sheet;
+pub mod writer;
