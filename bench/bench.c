@@ -1,0 +1,304 @@
+/* Times the proved planner beside the plain one, in one process: equal answers first, then times, best of several rounds. */
+#include "plain.h"
+#include "planner.h"
+
+/* Declared here, since where this is compiled for another machine there are no headers of a C library. */
+int printf(const char *, ...);
+int open(const char *, int, ...);
+long read(int, void *, unsigned long);
+int close(int);
+int memcmp(const void *, const void *, unsigned long);
+void *memset(void *, int, unsigned long);
+void *memcpy(void *, const void *, unsigned long);
+struct moment {
+    long seconds, nanoseconds;
+};
+int clock_gettime(int, struct moment *);
+
+#define ROOM 9304 /* of a longer file only that it is longer matters */
+#define ROUNDS 40
+#define ROUND_NS 1000000 /* of each side in each round, about */
+
+struct input {
+    const char *name;
+    uint8_t file[ROOM];
+    size_t length;
+    uint32_t times[VERTICES]; /* every vertex takes its WCET */
+    size_t n;
+};
+
+/* Answers. */
+
+static uint32_t met; /* bit k: some answer had number k */
+
+static int differ(const struct input *in, const char *call) {
+    printf("%s: the two sides of %s differ\n", in->name, call);
+    return 1;
+}
+
+static int differ_read(const struct input *in) {
+    PlannerGraph a = planner_read(in->file, in->length);
+    struct plain_graph b = plain_read(in->file, in->length);
+    met |= 1u << b.number % 32;
+    return a.number != b.number || a.place != b.place || a.graph.kinds != b.kinds || a.graph.n != b.n || a.graph.edges != b.edges ||
+           memcmp(a.graph.cores, b.cores, sizeof b.cores) || memcmp(a.graph.kind, b.kind, sizeof b.kind) ||
+           memcmp(a.graph.wcet, b.wcet, sizeof b.wcet) || memcmp(a.graph.edge, b.edge, sizeof b.edge);
+}
+
+static int differ_bounds(const struct input *in) {
+    PlannerBounds a = planner_bounds(in->file, in->length);
+    struct plain_bounds b = plain_bounds(in->file, in->length);
+    met |= 1u << b.number % 32;
+    return a.number != b.number || a.place != b.place || a.old_b != b.old || a.new_b_1 != b.new || a.ticks != b.ticks;
+}
+
+static int differ_path(const struct input *in, size_t room) {
+    uint8_t one[VERTICES], other[VERTICES];
+    memset(one, 0xA5, sizeof one);
+    memset(other, 0xA5, sizeof other);
+    PlannerCount a = planner_path(in->file, in->length, one, room);
+    struct plain_count b = plain_path(in->file, in->length, other, room);
+    met |= 1u << b.number % 32;
+    return a.number != b.number || a.place != b.place || a.count != b.count || memcmp(one, other, sizeof one);
+}
+
+static int differ_run(const struct input *in, const uint32_t *times, size_t count, size_t room) {
+    uint32_t one[VERTICES], other[VERTICES];
+    memset(one, 0xA5, sizeof one);
+    memset(other, 0xA5, sizeof other);
+    PlannerFinish a = planner_run(in->file, in->length, times, count, one, room);
+    struct plain_finish b = plain_run(in->file, in->length, times, count, other, room);
+    met |= 1u << b.number % 32;
+    return a.number != b.number || a.place != b.place || a.finish != b.finish || memcmp(one, other, sizeof one);
+}
+
+static uint64_t seed = 88172645463325252u;
+
+static uint32_t below(uint32_t n) {
+    seed ^= seed << 13;
+    seed ^= seed >> 7;
+    seed ^= seed << 17;
+    return (uint32_t)(seed >> 32) % n;
+}
+
+static int differ_any(const struct input *in) {
+    uint32_t times[VERTICES];
+    if (differ_read(in))
+        return differ(in, "read");
+    if (differ_bounds(in))
+        return differ(in, "bounds");
+    if (differ_path(in, VERTICES) || differ_path(in, in->n) || differ_path(in, in->n - 1))
+        return differ(in, "path");
+    for (int i = 0; i < 4; i++) { /* any times up to the WCETs, some of them 0, in the end all of them */
+        for (size_t v = 0; v < in->n; v++)
+            times[v] = below(4) < (uint32_t)i ? 0 : below(in->times[v] + 1);
+        if (differ_run(in, times, in->n, in->n))
+            return differ(in, "run");
+    }
+    times[below((uint32_t)in->n)] = 1000001;
+    if (differ_run(in, in->times, in->n, VERTICES) || differ_run(in, in->times, in->n, in->n - 1) || differ_run(in, in->times, in->n - 1, VERTICES) ||
+        differ_run(in, times, in->n, VERTICES))
+        return differ(in, "run");
+    return 0;
+}
+
+/* The file as it is; then so many times with bytes altered or its end cut off, so that most numbers occur. */
+static int differ_altered(struct input *in, int many) {
+    static struct input altered;
+    int bad = differ_any(in);
+    for (int i = 0; i < many && !bad; i++) {
+        altered = *in;
+        for (uint32_t left = 1 + below(2); left > 0; left--) {
+            uint8_t *byte = &altered.file[below((uint32_t)in->length)];
+            *byte = below(2) ? (uint8_t)below(256) : (uint8_t)(*byte ^ 1u << below(8));
+        }
+        if (below(16) == 0)
+            altered.length = below((uint32_t)in->length + 1);
+        bad = differ_any(&altered);
+    }
+    return bad;
+}
+
+/* Inputs. */
+
+static uint32_t wcet_at(const struct input *in, size_t k) {
+    const uint8_t *r = in->file + 8 * k;
+    return r[4] | (uint32_t)r[5] << 8 | (uint32_t)r[6] << 16 | (uint32_t)r[7] << 24;
+}
+
+/* Every vertex takes its WCET. Where a file has no vertex, or too many, the lists are as long as some other file's. */
+static void full_times(struct input *in) {
+    in->n = 0;
+    for (size_t k = 0; k < in->length / 8; k++)
+        if (in->file[8 * k] == 0x56 && in->n < VERTICES)
+            in->times[in->n++] = wcet_at(in, k);
+    if (in->n == 0)
+        in->n = 1;
+}
+
+static int from_file(struct input *in, const char *name, const char *path) {
+    int fd = open(path, 0);
+    long got = fd < 0 ? -1 : read(fd, in->file, ROOM);
+    if (got < 0) {
+        printf("%s can't be read\n", path);
+        return 1;
+    }
+    close(fd);
+    in->name = name;
+    in->length = (size_t)got;
+    full_times(in);
+    return 0;
+}
+
+static void put(struct input *in, uint8_t tag, size_t number, size_t third, uint32_t word) {
+    uint8_t *r = in->file + in->length;
+    in->length += 8;
+    r[0] = tag;
+    r[1] = (uint8_t)number;
+    r[2] = (uint8_t)third;
+    r[3] = 0;
+    for (int i = 0; i < 4; i++)
+        r[4 + i] = (uint8_t)(word >> 8 * i);
+}
+
+/* The deepest of the largest: 10 types, a path through all 128 vertices, and the shortest edges beside it, 1,024 in all. */
+static void deepest(struct input *in, const char *name) {
+    static uint8_t has[VERTICES][VERTICES];
+    size_t edges = 0;
+    for (size_t step = 1; edges < EDGES; step++)
+        for (size_t u = 0; u + step < VERTICES && edges < EDGES; u++, edges++)
+            has[u][u + step] = 1;
+    in->name = name;
+    in->length = 0;
+    for (size_t s = 0; s < KINDS; s++)
+        put(in, 0x54, s, 1 + 7 * s % 16, 0);
+    for (size_t v = 0; v < VERTICES; v++)
+        put(in, 0x56, v, v % KINDS, (uint32_t)(1 + v * v % 1009));
+    for (size_t u = 0; u < VERTICES; u++)
+        for (size_t v = 0; v < VERTICES; v++)
+            if (has[u][v])
+                put(in, 0x45, u, v, 0);
+    full_times(in);
+}
+
+/* The same graph numbered the other way round: records of vertices and edges in the opposite order, with the opposite numbers. */
+static void against(struct input *in, const char *name, const struct input *up) {
+    size_t kinds = 0, records = up->length / 8;
+    while (up->file[8 * kinds] == 0x54)
+        kinds++;
+    size_t edges = records - kinds - up->n, last = up->n - 1;
+    in->name = name;
+    in->length = 0;
+    for (size_t k = 0; k < kinds; k++)
+        put(in, 0x54, k, up->file[8 * k + 2], 0);
+    for (size_t v = 0; v < up->n; v++)
+        put(in, 0x56, v, up->file[8 * (kinds + last - v) + 2], wcet_at(up, kinds + last - v));
+    for (size_t i = 0; i < edges; i++) {
+        const uint8_t *r = up->file + 8 * (records - 1 - i);
+        put(in, 0x45, last - r[1], last - r[2], 0);
+    }
+    full_times(in);
+}
+
+/* The limits of document 01 from both sides, and the examples of document 000: compared, not timed. */
+static const char *const cases[] = {
+    "crates/cases/data/kinds-10.graph",     "crates/cases/data/kinds-11.graph",     "crates/cases/data/vertices-128.graph", "crates/cases/data/vertices-129.graph",
+    "crates/cases/data/edges-1024.graph",   "crates/cases/data/edges-1025.graph",   "crates/cases/data/wcet-1000000.graph", "crates/cases/data/wcet-1000001.graph",
+    "crates/cases/data/length-9296.graph",  "crates/cases/data/length-9304.graph",  "crates/cases/data/length-7.graph",     "crates/cases/data/length-0.graph",
+    "crates/cases/data/zeros-8.graph",      "crates/cases/data/example-1.graph",    "crates/cases/data/example-2.graph",    "crates/cases/data/example-3.graph",
+};
+#define CASES (sizeof cases / sizeof cases[0])
+
+/* Times. */
+
+static uint64_t now(void) {
+    struct moment m;
+    clock_gettime(1, &m); /* the clock that is never set */
+    return (uint64_t)m.seconds * 1000000000u + (uint64_t)m.nanoseconds;
+}
+
+static volatile uint64_t kept; /* an answer of every call goes here, so that none is left out */
+static uint8_t vertices[VERTICES];
+static uint32_t finishes[VERTICES];
+
+static void proved_read(const struct input *in) { kept += planner_read(in->file, in->length).graph.edges; }
+static void proved_bounds(const struct input *in) { kept += planner_bounds(in->file, in->length).ticks; }
+static void proved_path(const struct input *in) { kept += planner_path(in->file, in->length, vertices, VERTICES).count; }
+static void proved_run(const struct input *in) { kept += planner_run(in->file, in->length, in->times, in->n, finishes, VERTICES).finish; }
+static void c_read(const struct input *in) { kept += plain_read(in->file, in->length).edges; }
+static void c_bounds(const struct input *in) { kept += plain_bounds(in->file, in->length).ticks; }
+static void c_path(const struct input *in) { kept += plain_path(in->file, in->length, vertices, VERTICES).count; }
+static void c_run(const struct input *in) { kept += plain_run(in->file, in->length, in->times, in->n, finishes, VERTICES).finish; }
+
+typedef void (*work)(const struct input *);
+
+static const struct {
+    const char *name;
+    work proved, plain;
+} calls[] = {
+    {"read", proved_read, c_read},
+    {"bounds", proved_bounds, c_bounds},
+    {"path", proved_path, c_path},
+    {"run", proved_run, c_run},
+};
+
+static double time_of(work w, const struct input *in, uint64_t times) {
+    uint64_t begin = now();
+    for (uint64_t i = 0; i < times; i++)
+        w(in);
+    return (double)(now() - begin) / (double)times;
+}
+
+/* As often as makes a round. */
+static uint64_t often(work w, const struct input *in) {
+    uint64_t times = 1;
+    while (time_of(w, in, times) * (double)times < ROUND_NS / 2)
+        times *= 2;
+    return times;
+}
+
+static void compare(const struct input *in, int ratios_only) {
+    for (size_t i = 0; i < sizeof calls / sizeof calls[0]; i++) {
+        uint64_t proved_times = often(calls[i].proved, in), plain_times = often(calls[i].plain, in);
+        double proved = 1e18, plain = 1e18;
+        for (int round = 0; round < ROUNDS; round++) {
+            double a = time_of(calls[i].proved, in, proved_times), b = time_of(calls[i].plain, in, plain_times);
+            proved = a < proved ? a : proved;
+            plain = b < plain ? b : plain;
+        }
+        if (ratios_only)
+            printf("| %s | %s | %.2f |\n", in->name, calls[i].name, proved / plain);
+        else
+            printf("| %s | %s | %.2f | %.2f | %.2f |\n", in->name, calls[i].name, proved / plain, proved / 1e3, plain / 1e3);
+    }
+}
+
+/* With an argument, ratios alone. */
+int main(int count, char **words) {
+    (void)words;
+    static struct input inputs[6];
+    if (from_file(&inputs[0], "case A", "samples/case-a.graph") || from_file(&inputs[1], "board", "samples/board.graph") ||
+        from_file(&inputs[2], "largest, upwards", "crates/cases/data/length-9296.graph"))
+        return 1;
+    against(&inputs[3], "largest, against", &inputs[2]);
+    deepest(&inputs[4], "deepest, upwards");
+    against(&inputs[5], "deepest, against", &inputs[4]);
+    for (int i = 0; i < 6; i++)
+        if (differ_altered(&inputs[i], 1000))
+            return 1;
+    for (size_t i = 0; i < CASES; i++) {
+        static struct input in;
+        if (from_file(&in, cases[i], cases[i]) || differ_any(&in))
+            return 1;
+    }
+    printf("equal answers: 6 inputs, each as it is and altered 1000 times, and %d cases; numbers met:", (int)CASES);
+    for (int k = 0; k < 32; k++)
+        if (met >> k & 1)
+            printf(" %d", k);
+    printf("\n\n");
+    printf(count > 1 ? "| input | call | proved / plain |\n|---|---|---|\n"
+                     : "| input | call | proved / plain | proved, microseconds | plain, microseconds |\n|---|---|---|---|---|\n");
+    for (int i = 0; i < 6; i++)
+        compare(&inputs[i], count > 1);
+    return 0;
+}

@@ -1,0 +1,42 @@
+/* The planner's work in plain C, to be timed beside the proved one: no proofs, arrays on the stack, the refusals 1 to 15. */
+#ifndef PLAIN_H
+#define PLAIN_H
+
+#include <stddef.h>
+#include <stdint.h>
+
+#define KINDS 10
+#define VERTICES 128
+#define EDGES 1024
+
+/* `number` 0 is no refusal. */
+struct plain_graph {
+    uint32_t number, place;
+    size_t kinds, n, edges;
+    uint8_t cores[KINDS];
+    uint8_t kind[VERTICES];
+    uint32_t wcet[VERTICES];
+    uint16_t edge[EDGES]; /* from * 256 + to */
+};
+
+struct plain_bounds {
+    uint32_t number, place;
+    uint64_t old, new, ticks;
+};
+
+struct plain_count {
+    uint32_t number, place;
+    uint64_t count;
+};
+
+struct plain_finish {
+    uint32_t number, place;
+    uint64_t finish;
+};
+
+struct plain_graph plain_read(const uint8_t *file, size_t length);
+struct plain_bounds plain_bounds(const uint8_t *file, size_t length);
+struct plain_count plain_path(const uint8_t *file, size_t length, uint8_t *out, size_t room);
+struct plain_finish plain_run(const uint8_t *file, size_t length, const uint32_t *times, size_t count, uint32_t *finishes, size_t room);
+
+#endif

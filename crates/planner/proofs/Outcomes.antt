@@ -1,0 +1,68 @@
+-- No public contract of this crate leaves a choice, of the result or of what was lent.
+use mathlib.Core.Path.{_≡_, refl, sym, ap, _∙_}
+use mathlib.Core.List.{List}
+use Prim.Native.Nat.{ℕ}
+use denote.Ref.{now}
+use Rattle.outcome.specs.OneOutcome.{OneOutcome}
+use Rattle.outcome.specs.Stated.{Stated}
+use Rattle.bounds.proofs.Unique.{bounds-unique, path-of-unique}
+use Rattle.schedule.specs.Tick.{tickOf}
+use Rattle.planner.specs.Coded.{codedBounds, codedPath, BoundsCoded, PathCoded}
+use Rattle.planner.specs.CodedRun.{codedReport}
+use Rattle.planner.specs.declared.PlannerBounds.{PlannerBounds}
+use Rattle.planner.specs.declared.PlannerCount.{PlannerCount}
+use Rattle.planner.proofs.planner_read as read
+use Rattle.planner.proofs.planner_read.Reads as read-reads
+use Rattle.planner.proofs.planner_write as write
+use Rattle.planner.proofs.planner_write.Reads as write-reads
+use Rattle.planner.proofs.planner_bounds as bounds
+use Rattle.planner.proofs.planner_bounds.Reads as bounds-reads
+use Rattle.planner.proofs.planner_path as path
+use Rattle.planner.proofs.planner_path.Reads as path-reads
+use Rattle.planner.proofs.planner_start as start
+use Rattle.planner.proofs.planner_start.Reads as start-reads
+use Rattle.planner.proofs.planner_tick as tick
+use Rattle.planner.proofs.planner_tick.Reads as tick-reads
+use Rattle.planner.proofs.planner_tick_in_place as tick-in-place
+use Rattle.planner.proofs.planner_run as run
+use Rattle.planner.proofs.planner_run.Reads as run-reads
+
+pub planner-read-one : OneOutcome read.ended read-reads.Pre read-reads.Post
+planner-read-one κs a r r′ ws ws′ pre p q = (p ∙ sym q, refl)
+
+-- what was lent, at the end: nothing of the four lists, and the list of out
+pub planner-write-one : OneOutcome write.ended write-reads.Pre write-reads.Post
+planner-write-one κs a r r′ ws ws′ pre p q = (p .0 ∙ sym (q .0), λ i. (tt, (tt, (tt, (tt, ((p .1 ∙ sym (q .1)) i, tt))))))
+
+bounds-coded-unique : (s : List ℕ) (r r′ : PlannerBounds) → BoundsCoded s r → BoundsCoded s r′ → r ≡ r′
+bounds-coded-unique s r r′ p q = p .coded ∙ ap codedBounds (bounds-unique s (p .bounded) (q .bounded) (p .of) (q .of)) ∙ sym (q .coded)
+
+pub planner-bounds-one : OneOutcome bounds.ended bounds-reads.Pre bounds-reads.Post
+planner-bounds-one κs a r r′ ws ws′ pre p q = (bounds-coded-unique _ r r′ p q, refl)
+
+path-coded-unique : {s old : List ℕ} {r r′ : PlannerCount} {new new′ : List ℕ} → PathCoded s old r new → PathCoded s old r′ new′
+    → (r ≡ r′) × (new ≡ new′)
+path-coded-unique p q = let e = path-of-unique (p .of) (q .of) in (p .coded ∙ ap codedPath (e .0) ∙ sym (q .coded), e .1)
+
+pub planner-path-one : OneOutcome path.ended path-reads.Pre path-reads.Post
+planner-path-one κs a r r′ ws ws′ pre p q = let e = path-coded-unique p q in (e .0, λ i. (tt, (e .1 i, tt)))
+
+pub planner-start-one : OneOutcome start.ended start-reads.Pre start-reads.Post
+planner-start-one κs a r r′ ws ws′ pre p q = (p ∙ sym q, refl)
+
+pub planner-tick-one : OneOutcome tick.ended tick-reads.Pre tick-reads.Post
+planner-tick-one κs a r r′ ws ws′ pre p q = (p ∙ sym q, refl)
+
+-- what was lent, at the end: nothing of the file and the times, and the list of finish instants
+pub planner-run-one : OneOutcome run.ended run-reads.Pre run-reads.Post
+planner-run-one κs a r r′ ws ws′ pre p q = (p .0 ∙ sym (q .0), λ i. (tt, (tt, ((p .1 ∙ sym (q .1)) i, tt))))
+
+-- a function that is proved by hand has no `Reads`: its clause is said again, and `refl` holds it to the generated one
+abbrev pub planner-tick-in-place-stated : Stated tick-in-place.ended (λ M. tick-in-place.clauses {M = M})
+planner-tick-in-place-stated = record {
+  post = λ κs a r e. (now (e .0) ≡ tickOf (now (a .1 .0)) (now (a .0)) .run) × (r ≡ codedReport (tickOf (now (a .1 .0)) (now (a .0)) .report));
+  says = λ M 𝓤 H A mem run κs a g r e. refl;
+}
+
+pub planner-tick-in-place-one : OneOutcome tick-in-place.ended (λ κs a. Unit {0}) (planner-tick-in-place-stated .post)
+planner-tick-in-place-one κs a r r′ ws ws′ pre p q = (p .1 ∙ sym (q .1), λ i. ((p .0 ∙ sym (q .0)) i, ws .1))

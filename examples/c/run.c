@@ -1,0 +1,72 @@
+/* Case A of document 01: written by the writer, played tick by tick where the record stands, by value, and whole. */
+#include "planner.h"
+
+/* Declared here, not included: an Arm machine has no headers for x86-64. */
+int printf(const char *format, ...);
+
+enum { VERTICES = 4 };
+
+static const uint8_t cores[] = {2, 3};
+static const uint8_t kinds[VERTICES] = {0, 1, 0, 1};
+static const uint32_t wcets[VERTICES] = {4, 9, 6, 3};
+static const uint16_t edges[] = {0 * 256 + 1, 0 * 256 + 2, 1 * 256 + 3, 2 * 256 + 3};
+
+static uint8_t file[PLANNER_LONGEST_FILE];
+static size_t length;
+
+static void print_instants(const char *what, const uint32_t *instants)
+{
+    printf("%s", what);
+    for (int v = 0; v < VERTICES; v++)
+        printf(" %u", (unsigned)instants[v]);
+    printf("\n");
+}
+
+/* No time here is 0, so a vertex finishes at the instant at which nothing of it is left. */
+static void note_finished(const PlannerRecord *run, uint32_t *finishes)
+{
+    for (int v = 0; v < VERTICES; v++)
+        if (run->left[v] == 0 && finishes[v] == 0)
+            finishes[v] = (uint32_t)run->instant;
+}
+
+int main(void)
+{
+    PlannerCount written = planner_write(cores, sizeof cores, kinds, VERTICES, wcets, VERTICES, edges, sizeof edges / sizeof edges[0], file, sizeof file);
+    length = written.count;
+    printf("file of %llu bytes\n", (unsigned long long)written.count);
+
+    /* Tick by tick, in the caller's own record. */
+    PlannerRun started = planner_start(file, length, wcets, VERTICES);
+    PlannerRecord run = started.run;
+    uint32_t stepped[VERTICES] = {0};
+    while (planner_tick_in_place(&run, file, length).moved)
+        note_finished(&run, stepped);
+    printf("done at %llu\n", (unsigned long long)run.instant);
+    print_instants("finishes in place", stepped);
+
+    /* Tick by tick, each tick handing back the next record. */
+    uint32_t valued[VERTICES] = {0};
+    PlannerTick tick = planner_tick(started.run, file, length);
+    while (tick.moved) {
+        note_finished(&tick.run, valued);
+        tick = planner_tick(tick.run, file, length);
+    }
+    print_instants("finishes by value", valued);
+
+    /* Whole. */
+    uint32_t finishes[VERTICES];
+    PlannerFinish whole = planner_run(file, length, wcets, VERTICES, finishes, VERTICES);
+    print_instants("finishes whole", finishes);
+    printf("finish %llu\n", (unsigned long long)whole.finish);
+
+    /* A refusal changes nothing that was lent. */
+    const uint32_t above[VERTICES] = {4, 10, 6, 3};
+    PlannerFinish refused = planner_run(file, length, above, VERTICES, finishes, VERTICES);
+    printf("refused %u at %u\n", (unsigned)refused.number, (unsigned)refused.place);
+    print_instants("finishes kept", finishes);
+    run.left[3] = 4;
+    PlannerMoved unsuited = planner_tick_in_place(&run, file, length);
+    printf("refused %u at %u, %u ticks left of vertex 3\n", (unsigned)unsuited.number, (unsigned)unsuited.place, (unsigned)run.left[3]);
+    return 0;
+}

@@ -1,0 +1,144 @@
+/*
+ * The planner for C, C++ and, through the same declarations, Rust. Link target/staticlib/libplanner.a (x86-64).
+ *
+ * Lists. A list is a pointer and then a length, counted in elements. A pointer is never null, not even for an empty list, and is aligned
+ * for its element; a list that is written overlaps nothing else that is lent to the same call. That is all a caller owes: whatever stands
+ * in the lists and in a record, every function returns an answer.
+ *
+ * Graphs. A graph is the bytes of its file: records of 8 bytes, 9,296 bytes at most (10 types, 128 vertices, 1,024 edges).
+ *
+ * Answers. Each begins with `number` and `place`. Number 0, at place 0, is no refusal. Otherwise docs/REFUSALS.md says what the number
+ * means and what the place counts: the lowest number that applies is given, with the first place it holds for. On a refusal nothing lent
+ * has changed: every list and record holds what it held. On success the places of a lent list past the answer also keep what they held.
+ */
+#ifndef PLANNER_H
+#define PLANNER_H
+
+#include <stddef.h>
+#include <stdint.h>
+
+#define PLANNER_LONGEST_FILE 9296
+#define PLANNER_MOST_VERTICES 128
+#define PLANNER_PARTS_PER_TICK 720720
+
+#ifdef __cplusplus
+#define PLANNER_SIZE(type, size) static_assert(sizeof(type) == (size), "the library lays " #type " out otherwise")
+extern "C" {
+#else
+#define PLANNER_SIZE(type, size) _Static_assert(sizeof(type) == (size), "the library lays " #type " out otherwise")
+#endif
+
+/* Counts and lists of a graph; unused places are zero. */
+typedef struct PlannerLists {
+    size_t kinds;        /* how many types, 1 to 10 */
+    size_t n;            /* how many vertices, 1 to 128 */
+    size_t edges;        /* how many edges, 0 to 1,024 */
+    uint8_t cores[10];   /* of each type, 1 to 16 */
+    uint8_t kind[128];   /* the type of each vertex */
+    uint32_t wcet[128];  /* of each vertex, in ticks */
+    uint16_t edge[1024]; /* from * 256 + to */
+} PlannerLists;
+PLANNER_SIZE(PlannerLists, 2728);
+
+/* A run record. Places from n on are zero and unmarked. A caller may copy it, keep it and read it; one that was changed by hand either
+   still suits the graph or is refused with 16. */
+typedef struct PlannerRecord {
+    size_t n;           /* how many vertices */
+    uint64_t instant;   /* ticks since the start */
+    uint32_t left[128]; /* the ticks that remain of each vertex */
+    uint64_t ran[2];    /* bit v % 64 of word v / 64: v ran in the last tick and is unfinished */
+} PlannerRecord;
+PLANNER_SIZE(PlannerRecord, 544);
+
+typedef struct PlannerGraph {
+    uint32_t number;
+    uint32_t place;
+    PlannerLists graph; /* zero throughout beside a refusal */
+} PlannerGraph;
+PLANNER_SIZE(PlannerGraph, 2736);
+
+typedef struct PlannerCount {
+    uint32_t number;
+    uint32_t place;
+    uint64_t count; /* 0 beside a refusal */
+} PlannerCount;
+PLANNER_SIZE(PlannerCount, 16);
+
+typedef struct PlannerBounds {
+    uint32_t number;
+    uint32_t place;
+    uint64_t old_b;   /* OLD-B in parts; all three are 0 beside a refusal */
+    uint64_t new_b_1; /* NEW-B-1 in parts */
+    uint64_t ticks;   /* NEW-B-1 in whole ticks, rounded down once */
+} PlannerBounds;
+PLANNER_SIZE(PlannerBounds, 32);
+
+typedef struct PlannerRun {
+    uint32_t number;
+    uint32_t place;
+    PlannerRecord run; /* zero and unmarked throughout beside a refusal */
+} PlannerRun;
+PLANNER_SIZE(PlannerRun, 552);
+
+typedef struct PlannerMoved {
+    uint32_t number;
+    uint32_t place;
+    uint32_t moved; /* 1 moved; 0 done, or refused */
+} PlannerMoved;
+PLANNER_SIZE(PlannerMoved, 12);
+
+typedef struct PlannerTick {
+    uint32_t number;
+    uint32_t place;
+    uint32_t moved;    /* 1 moved; 0 done, or refused */
+    PlannerRecord run; /* the record after the tick; where nothing moved, the one that was given */
+} PlannerTick;
+PLANNER_SIZE(PlannerTick, 560);
+
+typedef struct PlannerFinish {
+    uint32_t number;
+    uint32_t place;
+    uint64_t finish; /* 0 beside a refusal */
+} PlannerFinish;
+PLANNER_SIZE(PlannerFinish, 16);
+
+/* Reads a file: its counts and lists. Refuses with 1 to 12. */
+PlannerGraph planner_read(const uint8_t *file, size_t file_length);
+
+/* Writes the file of a graph into `out` and counts its bytes: 8 for each type, vertex and edge. Takes the cores of each type, the type
+   and WCET of each vertex, and the edges as from * 256 + to. Refuses with 13 (types and WCETs of different lengths), then 4 to 12, with the
+   places that the records would have had, then 15 (`out` is shorter than the file). */
+PlannerCount planner_write(const uint8_t *cores, size_t cores_length, const uint8_t *kinds, size_t kinds_length, const uint32_t *wcets,
+                           size_t wcets_length, const uint16_t *edges, size_t edges_length, uint8_t *out, size_t out_length);
+
+/* The bounds OLD-B and NEW-B-1 of a file's graph. No work-conserving schedule of it ends after tick `ticks`, whatever execution times up to
+   the WCETs its vertices take. Refuses with 1 to 12. */
+PlannerBounds planner_bounds(const uint8_t *file, size_t file_length);
+
+/* The path that gives NEW-B-1: its vertices, from source to sink, into `out`, and how many they are. Refuses with 1 to 12, then 15 (`out`
+   has fewer places than the graph has vertices, even where the path is shorter). */
+PlannerCount planner_path(const uint8_t *file, size_t file_length, uint8_t *out, size_t out_length);
+
+/* A run record at instant 0. Takes the execution time of each vertex, in ticks. Refuses with 1 to 12, then 13 (not one time for each vertex),
+   then 14 (a time above that vertex's WCET; the place is the vertex). */
+PlannerRun planner_start(const uint8_t *file, size_t file_length, const uint32_t *times, size_t times_length);
+
+/* One tick of the list schedule: takes a record and hands one back. A run whose vertices are all finished is done, and does not move; every
+   other tick moves, the one that ends the last vertex too. Refuses with 1 to 12, then 16 (the record doesn't suit this graph), and then
+   hands back the record it was given. */
+PlannerTick planner_tick(PlannerRecord run, const uint8_t *file, size_t file_length);
+
+/* The same tick, where the caller's record moves on where it stands. Where nothing moves, it holds what it held. */
+PlannerMoved planner_tick_in_place(PlannerRecord *run, const uint8_t *file, size_t file_length);
+
+/* A whole run: the instant at which each vertex finishes into `finishes`, and the finish of the run, both in ticks. Takes the execution time
+   of each vertex. Refuses with 1 to 12, then 13, then 14, as a start does, then 15 (`finishes` has fewer places than the graph has
+   vertices). */
+PlannerFinish planner_run(const uint8_t *file, size_t file_length, const uint32_t *times, size_t times_length, uint32_t *finishes,
+                          size_t finishes_length);
+
+#ifdef __cplusplus
+}
+#endif
+#undef PLANNER_SIZE
+#endif
