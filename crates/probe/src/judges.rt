@@ -59,15 +59,16 @@ fn path(file: &[u8], lent: &mut [u8], out: &mut [u8], at: usize) -> usize {
     }
 }
 
-pub(crate) fn path_request(p: &[u8], lent: &mut [u8], out: &mut [u8], at: usize) -> usize {
+pub(crate) fn path_request(p: &[u8], out: &mut [u8], at: usize) -> usize {
     let f = wire::list(p, 0);
-    let room = wire::number(p, f.end);
-    let whole = f.good & room.good & (room.end == p.len()) & (room.value <= 16384);
+    let places = wire::number(p, f.end);
+    let whole = f.good & places.good & (places.end == p.len()) & (places.value <= 16384);
     if !whole {
         return bad(out, at);
     }
     let start = f.start;
     let stop = f.end;
-    let n = (room.value % 65536) as usize;
-    path(&p[start..stop], lists::lend_bytes(lent, n), out, at)
+    let n = (places.value % 65536) as usize;
+    let mut room = [0u8; 16384];
+    path(&p[start..stop], lists::lend_bytes(&mut room, n), out, at)
 }

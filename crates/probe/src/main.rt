@@ -33,60 +33,35 @@ fn skip(n: u64, space: &mut [u8]) -> bool {
     true
 }
 
-// The lists that the entries borrow, side by side. (They are lent one by one: a struct that holds a reference is proved by hand.)
-fn answer(
-    letter: u8,
-    p: &[u8],
-    words: &mut [u32],
-    halves: &mut [u16],
-    lent: &mut [u8],
-    finishes: &mut [u32],
-    out: &mut [u8],
-) -> usize {
+fn answer(letter: u8, p: &[u8], out: &mut [u8]) -> usize {
     match letter {
         b'R' => reads::request(p, out, 0),
-        b'W' => writes::request(p, words, halves, lent, out, 0),
+        b'W' => writes::request(p, out, 0),
         b'B' => judges::bounds_request(p, out, 0),
-        b'P' => judges::path_request(p, lent, out, 0),
-        b'S' => runs::start_request(p, words, out, 0),
+        b'P' => judges::path_request(p, out, 0),
+        b'S' => runs::start_request(p, out, 0),
         b'T' => runs::tick_request(p, false, out, 0),
         b'I' => runs::tick_request(p, true, out, 0),
-        b'X' => runs::run_request(p, words, finishes, out, 0),
+        b'X' => runs::run_request(p, out, 0),
         _ => answers::bad(out, 0),
     }
 }
 
 // The payload of so many bytes, read and answered; whether it was all there.
-fn payload(
-    letter: u8,
-    long: usize,
-    space: &mut [u8],
-    words: &mut [u32],
-    halves: &mut [u16],
-    lent: &mut [u8],
-    finishes: &mut [u32],
-    out: &mut [u8],
-) -> bool {
+fn payload(letter: u8, long: usize, space: &mut [u8], out: &mut [u8]) -> bool {
     let p = lists::lend_bytes(space, long);
     let got = io::read_full(0, p);
     if got < long {
         io::write_all(1, b"bad request\n");
         return false;
     }
-    let filled = answer(letter, p, words, halves, lent, finishes, out);
+    let filled = answer(letter, p, out);
     print::flush(out, filled);
     true
 }
 
 // One request; whether another may follow.
-fn turn(
-    space: &mut [u8],
-    words: &mut [u32],
-    halves: &mut [u16],
-    lent: &mut [u8],
-    finishes: &mut [u32],
-    out: &mut [u8],
-) -> bool {
+fn turn(space: &mut [u8], out: &mut [u8]) -> bool {
     let mut head = [0u8; 5];
     let got = io::read_full(0, &mut head);
     if got == 0 {
@@ -102,30 +77,14 @@ fn turn(
         io::write_all(1, b"bad request\n");
         return more;
     }
-    payload(
-        head[0],
-        long as usize,
-        space,
-        words,
-        halves,
-        lent,
-        finishes,
-        out,
-    )
+    payload(head[0], long as usize, space, out)
 }
 
 // Requests until the input ends: more turns than any input has.
-fn requests(
-    space: &mut [u8],
-    words: &mut [u32],
-    halves: &mut [u16],
-    lent: &mut [u8],
-    finishes: &mut [u32],
-    out: &mut [u8],
-) {
+fn requests(space: &mut [u8], out: &mut [u8]) {
     let mut turns = u64::MAX;
     while turns > 0 {
-        if !turn(space, words, halves, lent, finishes, out) {
+        if !turn(space, out) {
             return;
         }
         turns -= 1;
@@ -134,17 +93,6 @@ fn requests(
 
 fn main() {
     let mut space = [0u8; 65536];
-    let mut words = [0u32; 16384];
-    let mut halves = [0u16; 32768];
-    let mut lent = [0u8; 16384];
-    let mut finishes = [0u32; 16384];
     let mut out = [0u8; 65536];
-    requests(
-        &mut space,
-        &mut words,
-        &mut halves,
-        &mut lent,
-        &mut finishes,
-        &mut out,
-    );
+    requests(&mut space, &mut out);
 }

@@ -113,7 +113,15 @@ fn whole(file: &[u8], times: &[u32], lent: &mut [u32], out: &mut [u8], at: usize
     }
 }
 
-pub(crate) fn start_request(p: &[u8], words: &mut [u32], out: &mut [u8], at: usize) -> usize {
+// The times of a payload, laid in a list of their own, and the start that they give.
+fn start_with(file: &[u8], bytes: &[u8], out: &mut [u8], at: usize) -> usize {
+    let mut words = [0u32; 16384];
+    let n = bytes.len() / 4;
+    lists::words(bytes, n, &mut words);
+    start(file, lists::front_words(&words, n), out, at)
+}
+
+pub(crate) fn start_request(p: &[u8], out: &mut [u8], at: usize) -> usize {
     let f = wire::list(p, 0);
     let t = wire::list(p, f.end);
     if !(f.good & t.good & (t.end == p.len()) & ((t.end - t.start) % 4 == 0)) {
@@ -123,9 +131,7 @@ pub(crate) fn start_request(p: &[u8], words: &mut [u32], out: &mut [u8], at: usi
     let fe = f.end;
     let ts = t.start;
     let te = t.end;
-    let n = (te - ts) / 4;
-    lists::words(&p[ts..te], n, words);
-    start(&p[fs..fe], lists::front_words(words, n), out, at)
+    start_with(&p[fs..fe], &p[ts..te], out, at)
 }
 
 pub(crate) fn tick_request(p: &[u8], in_place: bool, out: &mut [u8], at: usize) -> usize {
@@ -146,13 +152,22 @@ pub(crate) fn tick_request(p: &[u8], in_place: bool, out: &mut [u8], at: usize) 
     }
 }
 
-pub(crate) fn run_request(
-    p: &[u8],
-    words: &mut [u32],
-    lent: &mut [u32],
-    out: &mut [u8],
-    at: usize,
-) -> usize {
+// The same for a whole run, with a list of so many places lent to it.
+fn whole_with(file: &[u8], bytes: &[u8], room: usize, out: &mut [u8], at: usize) -> usize {
+    let mut words = [0u32; 16384];
+    let mut finishes = [0u32; 16384];
+    let n = bytes.len() / 4;
+    lists::words(bytes, n, &mut words);
+    whole(
+        file,
+        lists::front_words(&words, n),
+        lists::lend_words(&mut finishes, room),
+        out,
+        at,
+    )
+}
+
+pub(crate) fn run_request(p: &[u8], out: &mut [u8], at: usize) -> usize {
     let f = wire::list(p, 0);
     let t = wire::list(p, f.end);
     let room = wire::number(p, t.end);
@@ -164,14 +179,6 @@ pub(crate) fn run_request(
     let fe = f.end;
     let ts = t.start;
     let te = t.end;
-    let n = (te - ts) / 4;
     let m = (room.value % 65536) as usize;
-    lists::words(&p[ts..te], n, words);
-    whole(
-        &p[fs..fe],
-        lists::front_words(words, n),
-        lists::lend_words(lent, m),
-        out,
-        at,
-    )
+    whole_with(&p[fs..fe], &p[ts..te], m, out, at)
 }

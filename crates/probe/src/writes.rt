@@ -65,14 +65,35 @@ fn asked(p: &[u8]) -> Payload
     }
 }
 
-pub(crate) fn request(
-    p: &[u8],
-    words: &mut [u32],
-    halves: &mut [u16],
-    lent: &mut [u8],
+// The WCETs, the edges and the room, laid in lists of their own.
+fn write_with(
+    cores: &[u8],
+    kinds: &[u8],
+    wcets: &[u8],
+    edges: &[u8],
+    room: usize,
     out: &mut [u8],
     at: usize,
 ) -> usize {
+    let mut words = [0u32; 16384];
+    let mut halves = [0u16; 32768];
+    let mut lent = [0u8; 16384];
+    let n = wcets.len() / 4;
+    let e = edges.len() / 2;
+    lists::words(wcets, n, &mut words);
+    lists::halves(edges, e, &mut halves);
+    answer(
+        cores,
+        kinds,
+        lists::front_words(&words, n),
+        lists::front_halves(&halves, e),
+        lists::lend_bytes(&mut lent, room),
+        out,
+        at,
+    )
+}
+
+pub(crate) fn request(p: &[u8], out: &mut [u8], at: usize) -> usize {
     let a = asked(p);
     if !a.good {
         return bad(out, at);
@@ -85,19 +106,12 @@ pub(crate) fn request(
     let we = a.wcets.end;
     let es = a.edges.start;
     let ee = a.edges.end;
-    let room = a.room;
-    let n = (we - ws) / 4;
-    let e = (ee - es) / 2;
-    lists::words(&p[ws..we], n, words);
-    lists::halves(&p[es..ee], e, halves);
-    let wcets = lists::front_words(words, n);
-    let edges = lists::front_halves(halves, e);
-    answer(
+    write_with(
         &p[cs..ce],
         &p[ks..ke],
-        wcets,
-        edges,
-        lists::lend_bytes(lent, room),
+        &p[ws..we],
+        &p[es..ee],
+        a.room,
         out,
         at,
     )
