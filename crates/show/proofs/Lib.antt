@@ -1,0 +1,2 @@
+-- What the public contract leaves open: nothing.
+pub mod Outcomes
