@@ -1,0 +1,2 @@
+-- Where each vertex's edges begin.
+pub mod Starts
