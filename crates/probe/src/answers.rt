@@ -1,33 +1,40 @@
 // What every answer's line shares.
+use crate::lists;
 use crate::print;
 use graph::Refusal;
 
-pub(crate) fn bad(out: &mut [u8], at: usize) -> usize {
-    print::text(out, at, b"bad request\n")
+pub(crate) fn bad() {
+    print::text(b"bad request\n");
 }
 
-pub(crate) fn end(out: &mut [u8], at: usize) -> usize {
-    print::byte(out, at, b'\n')
+pub(crate) fn end() {
+    print::text(b"\n");
 }
 
 // `refused`, the number, `at`, the place. What stands beside it follows.
-pub(crate) fn refused(r: Refusal, out: &mut [u8], at: usize) -> usize {
-    let filled = print::text(out, at, b"refused");
-    let filled = print::field(out, filled, r.number as u64);
-    let filled = print::text(out, filled, b" at");
-    print::field(out, filled, r.place as u64)
+pub(crate) fn refused(r: Refusal) {
+    print::text(b"refused");
+    print::field(r.number as u64);
+    print::text(b" at");
+    print::field(r.place as u64);
+}
+
+// A word and a number: what an answer that is no refusal begins with.
+pub(crate) fn given(word: &[u8], n: u64) {
+    print::text(word);
+    print::field(n);
 }
 
 // The lent bytes, and the line's end.
-pub(crate) fn lent_bytes(lent: &[u8], out: &mut [u8], at: usize) -> usize {
-    let filled = print::text(out, at, b" :");
-    let filled = print::bytes(out, filled, lent, lent.len());
-    end(out, filled)
+pub(crate) fn lent_bytes(lent: &[u8]) {
+    let mut wide = [0u32; 16384];
+    lists::from_bytes(lent, &mut wide);
+    lent_words(lists::front_words(&wide, lent.len()))
 }
 
 // The lent places of 32 bits, and the line's end.
-pub(crate) fn lent_words(lent: &[u32], out: &mut [u8], at: usize) -> usize {
-    let filled = print::text(out, at, b" :");
-    let filled = print::words(out, filled, lent, lent.len());
-    end(out, filled)
+pub(crate) fn lent_words(lent: &[u32]) {
+    print::text(b" :");
+    print::words(lent, lent.len());
+    end();
 }

@@ -1,6 +1,7 @@
 // B: the bounds of a file; P: its path.
 use crate::answers::bad;
 use crate::answers::end;
+use crate::answers::given;
 use crate::answers::lent_bytes;
 use crate::answers::refused;
 use crate::lists;
@@ -10,65 +11,55 @@ use bounds::Bounded;
 use bounds::Pathed;
 use graph::Answer;
 
-fn figures(b: Bounded, out: &mut [u8], at: usize) -> usize {
-    let filled = print::text(out, at, b"old");
-    let filled = print::field(out, filled, b.old.0);
-    let filled = print::text(out, filled, b" new");
-    let filled = print::field(out, filled, b.new.0);
-    let filled = print::text(out, filled, b" ticks");
-    let filled = print::field(out, filled, b.ticks.0);
-    end(out, filled)
+fn figures(b: Bounded) {
+    given(b"old", b.old.0);
+    given(b" new", b.new.0);
+    given(b" ticks", b.ticks.0);
+    end();
 }
 
-fn both(file: &[u8], out: &mut [u8], at: usize) -> usize {
+fn both(file: &[u8]) {
     let b = bounds::bounds(file);
     let a = b.answer;
     match a {
-        Answer::Accepted => figures(b, out, at),
+        Answer::Accepted => figures(b),
         Answer::Refused(r) => {
-            let filled = refused(r, out, at);
-            let filled = print::byte(out, filled, b' ');
-            figures(b, out, filled)
+            refused(r);
+            print::text(b" ");
+            figures(b)
         }
     }
 }
 
-pub(crate) fn bounds_request(p: &[u8], out: &mut [u8], at: usize) -> usize {
+pub(crate) fn bounds_request(p: &[u8]) {
     let f = wire::list(p, 0);
     if !f.good | (f.end != p.len()) {
-        return bad(out, at);
+        return bad();
     }
-    let start = f.start;
-    let stop = f.end;
-    both(&p[start..stop], out, at)
+    both(wire::bytes(p, f))
 }
 
-fn path(file: &[u8], lent: &mut [u8], out: &mut [u8], at: usize) -> usize {
+fn found(path: Pathed) {
+    match path {
+        Pathed::Vertices(n) => given(b"path", n as u64),
+        Pathed::Refused(r) => refused(r),
+    }
+}
+
+fn path(file: &[u8], lent: &mut [u8]) {
     lists::preset_bytes(lent);
-    let found = bounds::path(file, lent);
-    match found {
-        Pathed::Vertices(n) => {
-            let filled = print::text(out, at, b"path");
-            let filled = print::field(out, filled, n as u64);
-            lent_bytes(lent, out, filled)
-        }
-        Pathed::Refused(r) => {
-            let filled = refused(r, out, at);
-            lent_bytes(lent, out, filled)
-        }
-    }
+    found(bounds::path(file, lent));
+    lent_bytes(lent)
 }
 
-pub(crate) fn path_request(p: &[u8], out: &mut [u8], at: usize) -> usize {
+pub(crate) fn path_request(p: &[u8]) {
     let f = wire::list(p, 0);
     let places = wire::number(p, f.end);
     let whole = f.good & places.good & (places.end == p.len()) & (places.value <= 16384);
     if !whole {
-        return bad(out, at);
+        return bad();
     }
-    let start = f.start;
-    let stop = f.end;
     let n = (places.value % 65536) as usize;
     let mut room = [0u8; 16384];
-    path(&p[start..stop], lists::lend_bytes(&mut room, n), out, at)
+    path(wire::bytes(p, f), lists::lend_bytes(&mut room, n))
 }

@@ -1,5 +1,7 @@
-// Lists of wider numbers from a payload's bytes, low byte first; what is lent, preset; and whether the rest of a list is zero.
+// Lists of wider numbers from a payload's bytes, low byte first; what is lent, preset; lists widened for print, and whether the rest of one
+// is zero.
 ghost use Prim.Native.Nat.{_≤_};
+use crate::wire::byte;
 use crate::wire::word;
 
 pub(crate) fn smaller(a: usize, b: usize) -> usize
@@ -12,21 +14,12 @@ pub(crate) fn thirty_two(p: &[u8], at: usize) -> u32 {
     word(p, at) as u32
 }
 
-fn half(x: u8) -> u16
-    ensures { λ r. ⌜ r ≤ 255 ⌝ }
-{
-    x as u16
-}
-
 fn sixteen(p: &[u8], at: usize) -> u16 {
     if at < p.len() {
-        let low = half(p[at]);
-        if at + 1 < p.len() {
-            return low + 256 * half(p[at + 1]);
-        }
-        return low;
+        (byte(p, at) + 256 * byte(p, at + 1)) as u16
+    } else {
+        0
     }
-    0
 }
 
 // Fills the first n places.
@@ -61,24 +54,31 @@ pub(crate) fn preset_words(list: &mut [u32]) {
     }
 }
 
+fn of_byte(x: u8) -> u32 {
+    x as u32
+}
+
+fn of_half(x: u16) -> u32 {
+    x as u32
+}
+
+// Narrower numbers as words, for what is printed: one way to print a list.
+pub(crate) fn from_bytes(list: &[u8], wide: &mut [u32]) {
+    let most = smaller(list.len(), wide.len());
+    for i in 0..most {
+        wide[i] = of_byte(list[i]);
+    }
+}
+
+pub(crate) fn from_halves(list: &[u16], wide: &mut [u32]) {
+    let most = smaller(list.len(), wide.len());
+    for i in 0..most {
+        wide[i] = of_half(list[i]);
+    }
+}
+
 // Whether all places from n on are zero.
-pub(crate) fn bytes_end(list: &[u8], n: usize) -> bool {
-    let mut zero = true;
-    for i in n..list.len() {
-        zero = zero & (list[i] == 0);
-    }
-    zero
-}
-
-pub(crate) fn halves_end(list: &[u16], n: usize) -> bool {
-    let mut zero = true;
-    for i in n..list.len() {
-        zero = zero & (list[i] == 0);
-    }
-    zero
-}
-
-pub(crate) fn words_end(list: &[u32], n: usize) -> bool {
+pub(crate) fn zero_from(list: &[u32], n: usize) -> bool {
     let mut zero = true;
     for i in n..list.len() {
         zero = zero & (list[i] == 0);

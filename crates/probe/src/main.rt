@@ -33,58 +33,57 @@ fn skip(n: u64, space: &mut [u8]) -> bool {
     true
 }
 
-fn answer(letter: u8, p: &[u8], out: &mut [u8]) -> usize {
+fn answer(letter: u8, p: &[u8]) {
     match letter {
-        b'R' => reads::request(p, out, 0),
-        b'W' => writes::request(p, out, 0),
-        b'B' => judges::bounds_request(p, out, 0),
-        b'P' => judges::path_request(p, out, 0),
-        b'S' => runs::start_request(p, out, 0),
-        b'T' => runs::tick_request(p, false, out, 0),
-        b'I' => runs::tick_request(p, true, out, 0),
-        b'X' => runs::run_request(p, out, 0),
-        _ => answers::bad(out, 0),
+        b'R' => reads::request(p),
+        b'W' => writes::request(p),
+        b'B' => judges::bounds_request(p),
+        b'P' => judges::path_request(p),
+        b'S' => runs::start_request(p),
+        b'T' => runs::tick_request(p, false),
+        b'I' => runs::tick_request(p, true),
+        b'X' => runs::run_request(p),
+        _ => answers::bad(),
     }
 }
 
 // The payload of so many bytes, read and answered; whether it was all there.
-fn payload(letter: u8, long: usize, space: &mut [u8], out: &mut [u8]) -> bool {
+fn payload(letter: u8, long: usize, space: &mut [u8]) -> bool {
     let p = lists::lend_bytes(space, long);
     let got = io::read_full(0, p);
     if got < long {
-        io::write_all(1, b"bad request\n");
+        answers::bad();
         return false;
     }
-    let filled = answer(letter, p, out);
-    print::flush(out, filled);
+    answer(letter, p);
     true
 }
 
 // One request; whether another may follow.
-fn turn(space: &mut [u8], out: &mut [u8]) -> bool {
+fn turn(space: &mut [u8]) -> bool {
     let mut head = [0u8; 5];
     let got = io::read_full(0, &mut head);
     if got == 0 {
         return false;
     }
     if got < 5 {
-        io::write_all(1, b"bad request\n");
+        answers::bad();
         return false;
     }
     let long = wire::word(&head, 1);
     if long > 65536 {
         let more = skip(long, space);
-        io::write_all(1, b"bad request\n");
+        answers::bad();
         return more;
     }
-    payload(head[0], long as usize, space, out)
+    payload(head[0], long as usize, space)
 }
 
 // Requests until the input ends: more turns than any input has.
-fn requests(space: &mut [u8], out: &mut [u8]) {
+fn requests(space: &mut [u8]) {
     let mut turns = u64::MAX;
     while turns > 0 {
-        if !turn(space, out) {
+        if !turn(space) {
             return;
         }
         turns -= 1;
@@ -93,6 +92,5 @@ fn requests(space: &mut [u8], out: &mut [u8]) {
 
 fn main() {
     let mut space = [0u8; 65536];
-    let mut out = [0u8; 65536];
-    requests(&mut space, &mut out);
+    requests(&mut space);
 }

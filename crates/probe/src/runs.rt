@@ -2,6 +2,7 @@
 // instant (8), 128 remainders (4 each), two words (8 each).
 use crate::answers::bad;
 use crate::answers::end;
+use crate::answers::given;
 use crate::answers::lent_words;
 use crate::answers::refused;
 use crate::lists;
@@ -39,121 +40,90 @@ fn taken(r: &[u8]) -> Run {
 }
 
 // ` : `, the record, and the line's end.
-fn record(run: Run, out: &mut [u8], at: usize) -> usize {
+fn record(run: Run) {
     let left = run.left;
-    let filled = print::text(out, at, b" :");
-    let filled = print::field(out, filled, run.n as u64);
-    let filled = print::field(out, filled, run.instant);
-    let filled = print::words(out, filled, &left, 128);
-    let filled = print::field(out, filled, run.ran.lo);
-    let filled = print::field(out, filled, run.ran.hi);
-    end(out, filled)
+    given(b" :", run.n as u64);
+    print::field(run.instant);
+    print::words(&left, 128);
+    print::field(run.ran.lo);
+    print::field(run.ran.hi);
+    end()
 }
 
-fn start(file: &[u8], times: &[u32], out: &mut [u8], at: usize) -> usize {
+fn start(file: &[u8], times: &[u32]) {
     let started = schedule::start(file, times);
     let answer = started.answer;
     let run = started.run;
     match answer {
-        Answer::Accepted => {
-            let filled = print::text(out, at, b"started");
-            record(run, out, filled)
-        }
-        Answer::Refused(r) => {
-            let filled = refused(r, out, at);
-            record(run, out, filled)
-        }
+        Answer::Accepted => print::text(b"started"),
+        Answer::Refused(r) => refused(r),
     }
+    record(run)
 }
 
-fn report(what: Report, run: Run, out: &mut [u8], at: usize) -> usize {
+fn report(what: Report, run: Run) {
     match what {
-        Report::Moved => {
-            let filled = print::text(out, at, b"moved");
-            record(run, out, filled)
-        }
-        Report::Done => {
-            let filled = print::text(out, at, b"done");
-            record(run, out, filled)
-        }
-        Report::Refused(r) => {
-            let filled = refused(r, out, at);
-            record(run, out, filled)
-        }
+        Report::Moved => print::text(b"moved"),
+        Report::Done => print::text(b"done"),
+        Report::Refused(r) => refused(r),
     }
+    record(run)
 }
 
-fn tick(run: Run, file: &[u8], out: &mut [u8], at: usize) -> usize {
-    let ticked = schedule::tick(run, file);
+// One tick by value, or in place.
+fn tick(run: Run, file: &[u8], in_place: bool) {
+    let ticked = if in_place {
+        schedule::ticked_in_place(run, file)
+    } else {
+        schedule::tick(run, file)
+    };
     let what = ticked.report;
     let next = ticked.run;
-    report(what, next, out, at)
+    report(what, next)
 }
 
-fn tick_in_place(run: Run, file: &[u8], out: &mut [u8], at: usize) -> usize {
-    let ticked = schedule::ticked_in_place(run, file);
-    let what = ticked.report;
-    let next = ticked.run;
-    report(what, next, out, at)
-}
-
-fn whole(file: &[u8], times: &[u32], lent: &mut [u32], out: &mut [u8], at: usize) -> usize {
-    lists::preset_words(lent);
-    let played = schedule::run(file, times, lent);
+fn finish(played: Played) {
     match played {
-        Played::Finish(t) => {
-            let filled = print::text(out, at, b"finish");
-            let filled = print::field(out, filled, t.0);
-            lent_words(lent, out, filled)
-        }
-        Played::Refused(r) => {
-            let filled = refused(r, out, at);
-            lent_words(lent, out, filled)
-        }
+        Played::Finish(t) => given(b"finish", t.0),
+        Played::Refused(r) => refused(r),
     }
+}
+
+fn whole(file: &[u8], times: &[u32], lent: &mut [u32]) {
+    lists::preset_words(lent);
+    finish(schedule::run(file, times, lent));
+    lent_words(lent)
 }
 
 // The times of a payload, laid in a list of their own, and the start that they give.
-fn start_with(file: &[u8], bytes: &[u8], out: &mut [u8], at: usize) -> usize {
+fn start_with(file: &[u8], bytes: &[u8]) {
     let mut words = [0u32; 16384];
     let n = bytes.len() / 4;
     lists::words(bytes, n, &mut words);
-    start(file, lists::front_words(&words, n), out, at)
+    start(file, lists::front_words(&words, n))
 }
 
-pub(crate) fn start_request(p: &[u8], out: &mut [u8], at: usize) -> usize {
+pub(crate) fn start_request(p: &[u8]) {
     let f = wire::list(p, 0);
     let t = wire::list(p, f.end);
-    if !(f.good & t.good & (t.end == p.len()) & ((t.end - t.start) % 4 == 0)) {
-        return bad(out, at);
+    if !(f.good & t.good & (t.end == p.len()) & (wire::size(t) % 4 == 0)) {
+        return bad();
     }
-    let fs = f.start;
-    let fe = f.end;
-    let ts = t.start;
-    let te = t.end;
-    start_with(&p[fs..fe], &p[ts..te], out, at)
+    start_with(wire::bytes(p, f), wire::bytes(p, t))
 }
 
-pub(crate) fn tick_request(p: &[u8], in_place: bool, out: &mut [u8], at: usize) -> usize {
+pub(crate) fn tick_request(p: &[u8], in_place: bool) {
     let f = wire::list(p, 0);
     let r = wire::list(p, f.end);
-    if !(f.good & r.good & (r.end == p.len()) & (r.end - r.start == 544)) {
-        return bad(out, at);
+    if !(f.good & r.good & (r.end == p.len()) & (wire::size(r) == 544)) {
+        return bad();
     }
-    let fs = f.start;
-    let fe = f.end;
-    let rs = r.start;
-    let re = r.end;
-    let run = taken(&p[rs..re]);
-    if in_place {
-        tick_in_place(run, &p[fs..fe], out, at)
-    } else {
-        tick(run, &p[fs..fe], out, at)
-    }
+    let run = taken(wire::bytes(p, r));
+    tick(run, wire::bytes(p, f), in_place)
 }
 
 // The same for a whole run, with a list of so many places lent to it.
-fn whole_with(file: &[u8], bytes: &[u8], room: usize, out: &mut [u8], at: usize) -> usize {
+fn whole_with(file: &[u8], bytes: &[u8], room: usize) {
     let mut words = [0u32; 16384];
     let mut finishes = [0u32; 16384];
     let n = bytes.len() / 4;
@@ -162,23 +132,17 @@ fn whole_with(file: &[u8], bytes: &[u8], room: usize, out: &mut [u8], at: usize)
         file,
         lists::front_words(&words, n),
         lists::lend_words(&mut finishes, room),
-        out,
-        at,
     )
 }
 
-pub(crate) fn run_request(p: &[u8], out: &mut [u8], at: usize) -> usize {
+pub(crate) fn run_request(p: &[u8]) {
     let f = wire::list(p, 0);
     let t = wire::list(p, f.end);
     let room = wire::number(p, t.end);
     let whole_payload = f.good & t.good & room.good & (room.end == p.len());
-    if !(whole_payload & ((t.end - t.start) % 4 == 0) & (room.value <= 16384)) {
-        return bad(out, at);
+    if !(whole_payload & (wire::size(t) % 4 == 0) & (room.value <= 16384)) {
+        return bad();
     }
-    let fs = f.start;
-    let fe = f.end;
-    let ts = t.start;
-    let te = t.end;
     let m = (room.value % 65536) as usize;
-    whole_with(&p[fs..fe], &p[ts..te], m, out, at)
+    whole_with(wire::bytes(p, f), wire::bytes(p, t), m)
 }
