@@ -3,6 +3,11 @@ use crate::lists;
 use crate::print;
 use graph::Refusal;
 
+// Before a call each byte of a lent list is A5 hex, so an untouched place shows 165, and one of 32 bits 2779096485.
+pub(crate) const PRESET: u8 = 0xA5;
+
+pub(crate) const PRESET_WORD: u32 = 0xA5A5A5A5;
+
 pub(crate) fn bad() {
     print::text(b"bad request\n");
 }

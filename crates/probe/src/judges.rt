@@ -1,4 +1,5 @@
 // B: the bounds of a file; P: its path.
+use crate::answers::PRESET;
 use crate::answers::bad;
 use crate::answers::end;
 use crate::answers::given;
@@ -18,17 +19,22 @@ fn figures(b: Bounded) {
     end();
 }
 
+// A refusal stands before the figures.
+fn said(answer: Answer) {
+    match answer {
+        Answer::Accepted => {}
+        Answer::Refused(r) => {
+            refused(r);
+            print::text(b" ")
+        }
+    }
+}
+
 fn both(file: &[u8]) {
     let b = bounds::bounds(file);
     let a = b.answer;
-    match a {
-        Answer::Accepted => figures(b),
-        Answer::Refused(r) => {
-            refused(r);
-            print::text(b" ");
-            figures(b)
-        }
-    }
+    said(a);
+    figures(b)
 }
 
 pub(crate) fn bounds_request(p: &[u8]) {
@@ -47,7 +53,6 @@ fn found(path: Pathed) {
 }
 
 fn path(file: &[u8], lent: &mut [u8]) {
-    lists::preset_bytes(lent);
     found(bounds::path(file, lent));
     lent_bytes(lent)
 }
@@ -60,6 +65,6 @@ pub(crate) fn path_request(p: &[u8]) {
         return bad();
     }
     let n = (places.value % 65536) as usize;
-    let mut room = [0u8; 16384];
+    let mut room = [PRESET; 16384];
     path(wire::bytes(p, f), lists::lend_bytes(&mut room, n))
 }

@@ -1,5 +1,5 @@
-// Lists of wider numbers from a payload's bytes, low byte first; what is lent, preset; lists widened for print, and whether the rest of one
-// is zero.
+// Lists of wider numbers from a payload's bytes, low byte first; lists widened for print; whether the rest of one is zero; and the front
+// of a list, to lend.
 ghost use Prim.Native.Nat.{_≤_};
 use crate::wire::byte;
 use crate::wire::word;
@@ -36,21 +36,6 @@ pub(crate) fn halves(p: &[u8], n: usize, list: &mut [u16]) {
     let most = smaller(end, 32768);
     for i in 0..most {
         list[i] = sixteen(p, 2 * i);
-    }
-}
-
-// Before a call each byte of a lent list is A5 hex, so an untouched place shows 165, and one of 32 bits 2779096485.
-pub(crate) fn preset_bytes(list: &mut [u8]) {
-    let n = list.len();
-    for i in 0..n {
-        list[i] = 0xA5;
-    }
-}
-
-pub(crate) fn preset_words(list: &mut [u32]) {
-    let n = list.len();
-    for i in 0..n {
-        list[i] = 0xA5A5A5A5;
     }
 }
 

@@ -1,5 +1,6 @@
 // S: a run started; T, I: one tick of a record, by value and in place; X: a whole run. A run record travels as 544 bytes: n (8),
 // instant (8), 128 remainders (4 each), two words (8 each).
+use crate::answers::PRESET_WORD;
 use crate::answers::bad;
 use crate::answers::end;
 use crate::answers::given;
@@ -8,6 +9,7 @@ use crate::answers::refused;
 use crate::lists;
 use crate::print;
 use crate::wire;
+use crate::wire::Part;
 use graph::Answer;
 use schedule::Played;
 use tick::Report;
@@ -16,9 +18,12 @@ use vset::Vset;
 
 fn remainders(r: &[u8]) -> [u32; 128] {
     let mut left = [0u32; 128];
-    for v in 0..128usize {
-        left[v] = lists::thirty_two(r, 16 + 4 * v);
-    }
+    let part = Part {
+        start: 16,
+        end: 528,
+        good: true,
+    };
+    lists::words(wire::bytes(r, part), 128, &mut left);
     left
 }
 
@@ -90,7 +95,6 @@ fn finish(played: Played) {
 }
 
 fn whole(file: &[u8], times: &[u32], lent: &mut [u32]) {
-    lists::preset_words(lent);
     finish(schedule::run(file, times, lent));
     lent_words(lent)
 }
@@ -125,7 +129,7 @@ pub(crate) fn tick_request(p: &[u8], in_place: bool) {
 // The same for a whole run, with a list of so many places lent to it.
 fn whole_with(file: &[u8], bytes: &[u8], room: usize) {
     let mut words = [0u32; 16384];
-    let mut finishes = [0u32; 16384];
+    let mut finishes = [PRESET_WORD; 16384];
     let n = bytes.len() / 4;
     lists::words(bytes, n, &mut words);
     whole(

@@ -1,4 +1,5 @@
 // W: lists, written.
+use crate::answers::PRESET;
 use crate::answers::bad;
 use crate::answers::given;
 use crate::answers::lent_bytes;
@@ -16,7 +17,6 @@ fn wrote(size: Wrote) {
 }
 
 fn answer(cores: &[u8], kinds: &[u8], wcets: &[u32], edges: &[u16], lent: &mut [u8]) {
-    lists::preset_bytes(lent);
     wrote(writer::write(cores, kinds, wcets, edges, lent));
     lent_bytes(lent)
 }
@@ -54,7 +54,7 @@ fn asked(p: &[u8]) -> Payload {
 fn write_with(cores: &[u8], kinds: &[u8], wcets: &[u8], edges: &[u8], room: usize) {
     let mut words = [0u32; 16384];
     let mut halves = [0u16; 32768];
-    let mut lent = [0u8; 16384];
+    let mut lent = [PRESET; 16384];
     let n = wcets.len() / 4;
     let e = edges.len() / 2;
     lists::words(wcets, n, &mut words);
