@@ -32,7 +32,7 @@ use Rattle.schedule.specs.Start.{timesOf, tooLong, judgeTimes, refusedSt
 use Rattle.schedule.specs.Tick.{tickOn, tickOf}
 use Rattle.schedule.specs.Whole.{finishAt, finishOf, Fitting, playIn, playOn, playOf, filledBeside, finishesOf}
 use Rattle.schedule.specs.Leaps.{Fresh, Ran}
-use Rattle.schedule.specs.declared.leaps.Work.{Work}
+use Rattle.schedule.specs.declared.leaps.Ended.{Ended}
 use Rattle.schedule.specs.declared.Played.{Played}
 use Rattle.schedule.specs.declared.Played.the-variants.{Finish, Refused as NoPlay}
 
@@ -131,17 +131,17 @@ module _ (g : Graph) (l : List ℕ) where
     }
 
     -- the end of a whole run, as the answer and as the list that is handed over
-    module _ (run : Run) (w : Work) (is-begun : run ≡ begun) (ran : Ran g (leftOf run) w) where
+    module _ (run : Run) (r : Ended) (is-begun : run ≡ begun) (ran : Ran g (leftOf run) r) where
       times : leftOf run ≡ timesOf l
       times = ap leftOf is-begun ∙ times-begun
 
-      pub finish-played : (m : ℕ) → g .n ≤ m → _≡_ {A = Played} (Finish (record { 0 = w .run .instant })) (playIn g l m)
+      pub finish-played : (m : ℕ) → g .n ≤ m → _≡_ {A = Played} (Finish (record { 0 = r .instant })) (playIn g l m)
       unfolding playIn
       finish-played m h =
           rw (le-ltb m (g .n) h)
           (ap {B = Played} (λ (x : ℕ). Finish (record { 0 = x })) (ran .finish ∙ ap (finishOf (asModel g)) times))
 
-      pub handed-over : table (place (w .finishes)) (g .n) ≡ table (finishAt (asModel g) (timesOf l)) (g .n)
+      pub handed-over : table (place (r .finishes)) (g .n) ≡ table (finishAt (asModel g) (timesOf l)) (g .n)
       handed-over =
-          table-ext (place (w .finishes)) (finishAt (asModel g) (timesOf l)) (g .n)
-          (λ v h. ap (λ (x : List ℕ). getD x v 0) (ran .instants) ∙ padded-at 128 (finishAt (asModel g) (leftOf run)) (g .n) v h ∙ ap (λ (e : ℕ → ℕ). finishAt (asModel g) e v) times)
+          table-ext (place (r .finishes)) (finishAt (asModel g) (timesOf l)) (g .n)
+          (λ v h. ran .instants v h ∙ ap (λ (e : ℕ → ℕ). finishAt (asModel g) e v) times)

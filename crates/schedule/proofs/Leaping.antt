@@ -10,14 +10,13 @@ use Prim.Native.Nat.{ℕ, zero, suc, _+_, _-_, _≤_, _<_}
 use native.Mathlib.Nat.{zero-add, suc-add, add-comm}
 use native.Mathlib.Omega.{arith}
 use lib.ListN.{getD, length, replicate, length-replicate}
-use lib.Seq.{ext-getD}
-use Rattle.model.specs.Places.{pick, first, any, every, count, sum, padded}
+use Rattle.model.specs.Places.{pick, first, any, every, count, sum}
 use Rattle.model.specs.Graph as model
 use Rattle.model.specs.ListSchedule.{State, finished, begin, chosen, leap, step, steps, Fair}
 use Rattle.model.proofs.Bools.{cases, clash, le-or-lt, not-is-true}
 use Rattle.model.proofs.Places.{first-at, first-none, every-at, every-intro, every-ext, any-intro, some-counted, none-counted, any-none}
 use Rattle.model.proofs.Sums.{sum-most}
-use Rattle.model.proofs.Tables.{padded-none, padded-at, padded-past, padded-length}
+use Rattle.model.proofs.Tables.{padded-none, padded-past}
 use Rattle.model.proofs.Finished.{fin-less}
 use Rattle.model.proofs.Tests.{finished-tells}
 use Rattle.model.proofs.Listed.{fair-begin}
@@ -30,11 +29,10 @@ use Rattle.tick.specs.Run.{MOST, leftOf, stateOf, recordOf}
 use Rattle.tick.specs.Ready.{someLeft, isBehind}
 use Rattle.tick.specs.Choice.{fairOf}
 use Rattle.tick.proofs.ByKind.{fair-sound, fair-complete}
-use Rattle.schedule.specs.declared.leaps.Work.{Work}
 use Rattle.schedule.specs.Whole.{doneAt, finishAt, finishOf}
 use Rattle.schedule.proofs.Moved.{moved-state, less-left, spend}
 use Rattle.schedule.proofs.OneLeap.{unfinished-is, over-all, one-runs}
-use Rattle.schedule.specs.Leaps.{stamped, unfinished, Sound, Leapt, Fresh, Kept, Ran}
+use Rattle.schedule.specs.Leaps.{Work, stamped, unfinished, Sound, Leapt, Fresh, Kept, Ran}
 
 pub steps-add : (G : model.Graph) (s : State) (d t : ℕ) → steps G (d + t) s ≡ steps G d (steps G t s)
 unfolding steps
@@ -136,9 +134,7 @@ module _ (g : Graph) (A : AcceptedGraph g) where
 
     stamp-at : (v : ℕ) → v < g .n → getD (new .finishes) v 0 ≡ pick (unfinished w v && not (unfinished new v)) (new .run .instant) (getD (w .finishes) v 0)
     unfolding stamped
-    stamp-at v l =
-        ap (λ (x : List ℕ). getD x v 0) (leapt .stamps)
-        ∙ padded-at 128 (stamped (w .finishes) (λ v. unfinished w v && not (unfinished new v)) (new .run .instant)) (g .n) v l
+    stamp-at v l = leapt .stamps .at v (omega (arith, A .few-vertices))
 
     -- finished now, or before
     newly : (v : ℕ) → v < g .n → unfinished new v ≡ false → (unfinished w v ≡ true) ⊎ (unfinished w v ≡ false)
@@ -187,8 +183,6 @@ module _ (g : Graph) (A : AcceptedGraph g) where
       sound = leapt .sound;
       state = there;
       spent = omega (arith, kept .spent, fewer-ticks, later);
-      long = ap (λ (l : List ℕ). length l) (leapt .stamps) ∙ padded-length 128 _ (g .n) (A .few-vertices);
-      unused = λ v l. ap (λ (x : List ℕ). getD x v 0) (leapt .stamps) ∙ padded-past 128 _ (g .n) v l;
       ended = has-ended;
       first = for-the-first;
       going = still-going;
@@ -213,7 +207,7 @@ module _ (g : Graph) (A : AcceptedGraph g) where
     in-time-start = omega (arith, fresh .at-start, A .few-vertices, sum-most (leftOf r) 1000000 (g .n) (λ v l. omega (arith, fresh .short v l, A .short v l)))
 
     module _ (w : Work) (is-run : w .run ≡ r) (is-busy : (v : ℕ) → isIn (w .busy) v ≡ someLeft (r .left) v)
-        (is-behind : (v : ℕ) → isIn (w .behind) v ≡ isBehind G (isIn (w .busy)) v) (is-table : w .finishes ≡ replicate 128 0) where
+        (is-behind : (v : ℕ) → isIn (w .behind) v ≡ isBehind G (isIn (w .busy)) v) (is-table : w .finishes ≡ replicate 128 0) (long : length (w .run .left) ≡ 128) where
       sound-start : Sound g w
       sound-start = record {
         agrees = rw is-run (fresh .agrees);
@@ -222,6 +216,8 @@ module _ (g : Graph) (A : AcceptedGraph g) where
         in-time = rw is-run in-time-start;
         is-busy = rw is-run is-busy;
         is-behind = is-behind;
+        long-left = long;
+        long-finishes = ap (λ (l : List ℕ). length l) is-table ∙ length-replicate {A = ℕ} 128 0;
       }
 
       zero-table : (v : ℕ) → getD (w .finishes) v 0 ≡ 0
@@ -240,8 +236,6 @@ module _ (g : Graph) (A : AcceptedGraph g) where
         sound = sound-start;
         state = rw is-run state-start;
         spent = rw is-run (omega (arith, fresh .at-start));
-        long = ap (λ (l : List ℕ). length l) is-table ∙ length-replicate {A = ℕ} 128 0;
-        unused = λ v l. zero-table v;
         ended = λ v l f. (omega (arith, zero-table v), ap (λ (t : ℕ). doneAt G (leftOf r) t v) (zero-table v) ∙ at-zero v l ∙ ap not f);
         first = λ v l f t h. absurd (omega (arith, zero-table v));
         going = λ v l u t h. ap (λ (x : ℕ). doneAt G (leftOf r) x v) (nought t (rw is-run at h)) ∙ at-zero v l ∙ ap not u;
@@ -257,12 +251,14 @@ module _ (g : Graph) (A : AcceptedGraph g) where
   unfolding doneAt stateOf
   doneAt-state e w k v = ap (λ (x : State). finished G (x .rest) v) (sym (k .state))
 
-  pub ran-whole : (e : ℕ → ℕ) (w : Work) → Kept g e w → count (isIn (w .busy)) 128 ≡ 0 → Ran g e w
+  pub ran-whole : (e : ℕ → ℕ) (w : Work) → Kept g e w → count (isIn (w .busy)) 128 ≡ 0 → Ran g e (record { instant = w .run .instant; finishes = w .finishes })
   unfolding finishOf finishAt asModel
   ran-whole e w k z = record {
     finish = sym (first-is (λ t. every (doneAt G e t) (g .n)) (sum e (g .n)) (w .run .instant) (omega (arith, k .spent)) (k .not-all)
         (every-intro (doneAt G e (w .run .instant)) (g .n) (λ v l. done v l)));
-    instants = ext-getD 0 (w .finishes) (padded 128 (finishAt G e) (g .n)) (k .long ∙ sym (padded-length 128 (finishAt G e) (g .n) (A .few-vertices))) (λ v h. at v);
+    instants = λ v l.
+        let f = k .ended v l (over-now v l) in
+        sym (first-is (λ t. doneAt G e t v) (sum e (g .n)) (getD (w .finishes) v 0) (omega (arith, f .0, k .spent)) (k .first v l (over-now v l)) (f .1));
   }
     where
       none : any (isIn (w .busy)) 128 ≡ false
@@ -276,13 +272,3 @@ module _ (g : Graph) (A : AcceptedGraph g) where
 
       done : (v : ℕ) → v < g .n → doneAt G e (w .run .instant) v ≡ true
       done v l = doneAt-state e w k v ∙ is-done v l
-
-      at : (v : ℕ) → getD (w .finishes) v 0 ≡ getD (padded 128 (finishAt G e) (g .n)) v 0
-      at v =
-          ⊎-elim
-          (λ (l : g .n ≤ v). k .unused v l ∙ sym (padded-past 128 (finishAt G e) (g .n) v l))
-          (λ (l : v < g .n).
-          let f = k .ended v l (over-now v l) in
-          sym (first-is (λ t. doneAt G e t v) (sum e (g .n)) (getD (w .finishes) v 0) (omega (arith, k .spent, f .0)) (k .first v l (over-now v l)) (f .1))
-          ∙ sym (padded-at 128 (finishAt G e) (g .n) v l))
-          (le-or-lt (g .n) v)

@@ -1,40 +1,45 @@
 -- One leap from a sound run: what runs, for how long, and that the run is sound again.
 use mathlib.Core.Path.{_≡_, refl, sym, ap, _∙_, subst, fun-ext}
-use mathlib.Core.Logic.{⊎-elim}
+use mathlib.Core.Logic.{_⊎_, inl, inr, ⊎-elim}
 use mathlib.Core.List.{List}
-use mathlib.Core.Bool.{Bool, true, false, not, _&&_, _||_}
+use mathlib.Core.Bool.{Bool, true, false, not, _&&_, _||_, and-true}
 use Prim.Native.Nat.{ℕ, _+_, _-_, _≤_, _<_, zero-le}
 use native.Mathlib.Omega.{arith}
 use lib.Dec.{ltb}
-use lib.ListN.{getD}
+use lib.ListN.{getD, length}
 use borrow.Author.Tests.{lt-ltb, le-ltb, ltb-true}
-use Rattle.model.specs.Places.{pick, any, every, count, sum, padded}
+use Rattle.model.specs.Places.{pick, any, every, count, sum, table}
 use Rattle.model.specs.Graph as model
 use Rattle.model.specs.ListSchedule.{finished, chosen, leap, Fair}
-use Rattle.model.proofs.Bools.{le-or-lt}
+use Rattle.model.proofs.Bools.{cases, le-or-lt}
 use Rattle.model.proofs.Places.{any-intro, some-counted, count-less}
 use Rattle.model.proofs.Sums.{sum-term}
+use Rattle.model.proofs.Tables.{table-length}
 use Rattle.model.proofs.Finished.{fin-left}
 use Rattle.model.proofs.Listed.{some-chosen, fair-leap}
 use Rattle.graph.specs.declared.Graph.{Graph}
 use Rattle.graph.specs.Model.{asModel, AcceptedGraph}
 use Rattle.vset.specs.declared.Vset.{Vset}
-use Rattle.vset.specs.Members.{isIn}
+use Rattle.vset.specs.Members.{isIn, Members}
 use Rattle.tick.specs.declared.Run.{Run}
-use Rattle.tick.specs.Run.{MOST, leftOf, stateOf, recordOf, after, over}
+use Rattle.tick.specs.Run.{MOST, leftOf, stateOf, recordOf, over}
 use Rattle.tick.specs.Ready.{someLeft, isBehind}
-use Rattle.tick.specs.Choice.{choice}
-use Rattle.tick.proofs.Records.{after-leap}
+use Rattle.tick.specs.Remains.{lowered}
+use Rattle.tick.specs.Choice.{OfKinds, chosenBy}
+use Rattle.tick.proofs.Records.{moved-on, after-leap}
 use Rattle.tick.proofs.ByKind.{fair-sound, fair-complete}
 use Rattle.tick.proofs.Ticking.{over-is, finished-by, on-is, on-runs}
-use Rattle.schedule.specs.declared.leaps.Work.{Work}
 use Rattle.schedule.proofs.Moved.{moved-state, moved-left, spend}
-use Rattle.schedule.specs.Leaps.{LeastOf, stamped, unfinished, Sound, Leapt}
+use Rattle.schedule.specs.Leaps.{Work, LeastOf, Stamped, unfinished, Sound, Leapt}
 
 not-or : (a b : Bool) → a || b ≡ not (not a && not b)
 not-or true b = refl
 not-or false true = refl
 not-or false false = refl
+
+twice : (b : Bool) → not (not b) ≡ b
+twice true = refl
+twice false = refl
 
 module _ (g : Graph) (A : AcceptedGraph g) where
   abbrev G : model.Graph
@@ -63,12 +68,13 @@ module _ (g : Graph) (A : AcceptedGraph g) where
   -- ---- the leap that the code makes
 
   module _ (w : Work) (sound : Sound g w) (some : 0 < count (isIn (w .busy)) 128) (able on : ℕ → Bool)
-      (is-able : (v : ℕ) → able v ≡ isIn (w .busy) v && not (isIn (w .behind) v)) (is-on : (v : ℕ) → on v ≡ choice g able (isIn (w .run .ran)) v) where
+      (is-able : (v : ℕ) → able v ≡ isIn (w .busy) v && not (isIn (w .behind) v)) (words : List ℕ) (W : OfKinds words (g .kind) (g .n))
+      (is-on : (v : ℕ) → on v ≡ chosenBy (g .kinds) (g .cores) words able (isIn (w .run .ran)) v) where
     pub on-chosen : (v : ℕ) → on v ≡ chosen G (stateOf (w .run)) v
-    on-chosen = on-is g A (w .run) (sound .past) (isIn (w .busy)) (sound .is-busy) (isIn (w .behind)) (sound .is-behind) able is-able on is-on
+    on-chosen = on-is g A (w .run) (sound .past) (isIn (w .busy)) (sound .is-busy) (isIn (w .behind)) (sound .is-behind) able is-able words W on is-on
 
     on-has : (v : ℕ) → on v ≡ true → (v < g .n) × (1 ≤ leftOf (w .run) v)
-    on-has = on-runs g A (w .run) (sound .past) (isIn (w .busy)) (sound .is-busy) (isIn (w .behind)) (sound .is-behind) able is-able on is-on
+    on-has = on-runs g A (w .run) (sound .past) (isIn (w .busy)) (sound .is-busy) (isIn (w .behind)) (sound .is-behind) able is-able words W on is-on
 
     pub some-on : any on 128 ≡ true
     some-on =
@@ -78,8 +84,7 @@ module _ (g : Graph) (A : AcceptedGraph g) where
     module _ (d : ℕ) (least : LeastOf (leftOf (w .run)) on d) where
       pub within : (v : ℕ) → on v ≡ true → (v < w .run .n) × (d ≤ leftOf (w .run) v)
       within v t =
-          let h = on-has v t in
-          (rw (sound .agrees) (h .0), least .low v (omega (arith, h .0, A .few-vertices)) t)
+          (rw (sound .agrees) (on-has v t .0), least .low v t)
 
       pub at-most : w .run .instant + d ≤ MOST
       at-most = omega (arith, least .value, sum-term (leftOf (w .run)) (least .who) (g .n) (on-has (least .who) (least .member) .0), sound .in-time)
@@ -87,16 +92,33 @@ module _ (g : Graph) (A : AcceptedGraph g) where
       enough : (v : ℕ) → chosen G (stateOf (w .run)) v ≡ true → d ≤ leftOf (w .run) v
       enough v t = within v (on-chosen v ∙ t) .1
 
-      module _ (next : Run) (busy hind new : Vset) (table : List ℕ)
-          (is-next : next ≡ recordOf (w .run .n) (w .run .instant + d) (after on d (stateOf (w .run))))
-          (is-busy : (v : ℕ) → isIn busy v ≡ someLeft (next .left) v) (is-hind : (v : ℕ) → isIn hind v ≡ isBehind G (isIn busy) v)
+      module _ (left : List ℕ) (ran over busy hind new : Vset) (fins : List ℕ) (is-left : left ≡ table (lowered (w .run .left) on d) 128)
+          (is-ran : Members ran (λ v. on v && someLeft left v)) (is-over : (v : ℕ) → isIn over v ≡ on v && not (isIn ran v))
+          (busy-is : (v : ℕ) → isIn busy v ≡ isIn (w .busy) v && not (isIn over v)) (is-hind : (v : ℕ) → isIn hind v ≡ isBehind G (isIn busy) v)
           (is-new : (v : ℕ) → isIn new v ≡ (isIn (w .busy) v || isIn (w .behind) v) && not (isIn busy v || isIn hind v))
-          (is-table : table ≡ padded 128 (stamped (w .finishes) (isIn new) (next .instant)) (g .n)) where
+          (stamps : Stamped (w .finishes) (isIn new) (w .run .instant + d) fins) where
+        abbrev next : Run
+        next = record { n = w .run .n; instant = w .run .instant + d; left = left; ran = ran }
+
         moved : next ≡ recordOf (w .run .n) (w .run .instant + d) (leap G d (stateOf (w .run)))
-        moved = is-next ∙ ap (recordOf (w .run .n) (w .run .instant + d)) (after-leap G d (stateOf (w .run)) on on-chosen)
+        moved =
+            moved-on (w .run) on d left ran (rw (sound .agrees) (A .few-vertices)) (λ v l. sound .past v (rw (← sound .agrees) l)) is-left is-ran
+            ∙ ap (recordOf (w .run .n) (w .run .instant + d)) (after-leap G d (stateOf (w .run)) on on-chosen)
 
         left-after : (v : ℕ) → leftOf next v ≡ leftOf (w .run) v - pick (chosen G (stateOf (w .run)) v) d 0
         left-after = moved-left g A (w .run) (sound .agrees) (sound .past) d next moved
+
+        -- who has run out of ticks is no longer busy, and nobody else
+        is-busy : (v : ℕ) → isIn busy v ≡ someLeft left v
+        unfolding someLeft leftOf
+        is-busy v = busy-is v ∙ ap (λ (b : Bool). isIn (w .busy) v && not b) (is-over v ∙ ap (λ (b : Bool). on v && not b) (is-ran .are v)) ∙ go (cases (on v))
+          where
+            go : (on v ≡ true) ⊎ (on v ≡ false) → isIn (w .busy) v && not (on v && not (on v && ltb 0 (getD left v 0))) ≡ ltb 0 (getD left v 0)
+            go (inl t) = rw (t, sound .is-busy v ∙ lt-ltb 0 (getD (w .run .left) v 0) (on-has v t .1)) (twice (ltb 0 (getD left v 0)))
+            go (inr f) =
+                let c : chosen G (stateOf (w .run)) v ≡ false = sym (on-chosen v) ∙ f in
+                let z : getD (w .run .left) v 0 ≡ getD left v 0 = omega (arith, rw c at (left-after v)) in
+                rw f (and-true (isIn (w .busy) v) ∙ sound .is-busy v ∙ ap (ltb 0) z)
 
         -- the vertex with the fewest ticks left has none now
         fewer : count (isIn busy) 128 < count (isIn (w .busy)) 128
@@ -104,10 +126,10 @@ module _ (g : Graph) (A : AcceptedGraph g) where
         fewer =
             let h = on-has (least .who) (least .member) in
             let c : chosen G (stateOf (w .run)) (least .who) ≡ true = sym (on-chosen (least .who)) ∙ least .member in
-            let z : getD (next .left) (least .who) 0 ≡ 0 = omega (arith, rw c at (left-after (least .who)), least .value) in
+            let z : getD left (least .who) 0 ≡ 0 = omega (arith, rw c at (left-after (least .who)), least .value) in
             count-less (isIn busy) (isIn (w .busy)) (least .who) 128 (omega (arith, h .0, A .few-vertices))
             (λ v l t.
-            let b = ltb-true 0 (getD (next .left) v 0) (sym (is-busy v) ∙ t) in
+            let b = ltb-true 0 (getD left v 0) (sym (is-busy v) ∙ t) in
             sound .is-busy v ∙ lt-ltb 0 (getD (w .run .left) v 0) (omega (arith, left-after v)))
             (sound .is-busy (least .who) ∙ lt-ltb 0 (getD (w .run .left) (least .who) 0) (h .1))
             (is-busy (least .who) ∙ ap (ltb 0) z ∙ le-ltb 0 0 zero-le)
@@ -120,25 +142,23 @@ module _ (g : Graph) (A : AcceptedGraph g) where
             let u = one-runs w sound some in
             spend g A (w .run) (sound .agrees) (sound .past) d next moved (u .0) (u .1) (u .2) (enough (u .0) (u .2))
 
-        instant-is : next .instant ≡ w .run .instant + d
-        unfolding recordOf
-        instant-is = ap (λ (r : Run). r .instant) is-next
-
-        pub leapt : Leapt g w (record { run = next; busy = busy; behind = hind; finishes = table })
+        pub leapt : Leapt g w (record { run = next; busy = busy; behind = hind; finishes = fins })
         unfolding unfinished recordOf stateOf
         leapt = record {
           d = d;
           some = omega (arith, on-has (least .who) (least .member) .1, least .value);
           enough = enough;
           moved = moved;
-          stamps = is-table ∙ ap (λ (p : ℕ → Bool). padded 128 (stamped (w .finishes) p (next .instant)) (g .n)) (fun-ext is-new);
+          stamps = subst (λ (p : ℕ → Bool). Stamped (w .finishes) p (w .run .instant + d) fins) (fun-ext is-new) stamps;
           fewer = fewer;
           sound = record {
-            agrees = ap (λ (r : Run). r .n) is-next ∙ sound .agrees;
+            agrees = sound .agrees;
             past = λ v l. omega (arith, left-after v, sound .past v l);
             fair = fair-complete g next still-fair;
-            in-time = omega (arith, instant-is, fewer-ticks, sound .in-time);
+            in-time = omega (arith, fewer-ticks, sound .in-time);
             is-busy = is-busy;
             is-behind = is-hind;
+            long-left = ap (λ (l : List ℕ). length l) is-left ∙ table-length (lowered (w .run .left) on d) 128;
+            long-finishes = stamps .long;
           };
         }

@@ -2,131 +2,144 @@
 // cost does not grow with the execution times: each leap ends the ticks of one vertex at least.
 ghost use mathlib.Core.Path.{_≡_};
 ghost use mathlib.Core.Bool.{true};
-ghost use Prim.Native.Nat.{_≤_, _<_, min};
-ghost use Rattle.model.specs.Places.{pick, any, count, padded};
+ghost use Prim.Native.Nat.{_<_, min};
+ghost use lib.ListN.{length, replicate};
+ghost use Rattle.model.specs.Places.{any, count};
 ghost use Rattle.graph.specs.Model.{AcceptedGraph};
 ghost use Rattle.vset.specs.Members.{isIn};
 ghost use Rattle.tick.specs.Run.{leftOf};
 ghost use Rattle.tick.specs.Remains.{place};
-ghost use Rattle.schedule.specs.Leaps.{LeastOf, stamped, Sound, Leapt, Fresh, Kept, Ran};
+ghost use Rattle.tick.specs.Choice.{OfKinds};
+ghost use Rattle.schedule.specs.Leaps.{LeastOf, Stamped, workOf, Sound, Leapt, Fresh, Kept, Ran};
 use graph::Graph;
 use tick::Run;
 use vset::Vset;
 
-// A run between two leaps: the record, the vertices with ticks left and those behind them (the unfinished ones are in either), and
-// the finish instants of those that are finished.
-pub struct Work {
-    pub run: Run,
+// A run between two leaps: the instant, the vertices that ran up to it and have ticks left, all that have ticks left, and those
+// that stand behind them; an unfinished vertex is in either of the last two. Two tables go with it, and a leap changes them where
+// they stand: what is left of each vertex, and the finish instants of those that are finished.
+pub struct Moment {
+    pub instant: u64,
+    pub ran: Vset,
     pub busy: Vset,
     pub behind: Vset,
+}
+
+// The end of a run: the finish, and the finish instants.
+pub struct Ended {
+    pub instant: u64,
     pub finishes: [u32; 128],
 }
 
-fn lesser(a: u32, b: u32, on: bool) -> u32
-    ensures { λ r. ⌜ r ≡ pick on (min a b) a ⌝ }
+fn lesser(a: u32, b: u32) -> u32
+    ensures { λ r. ⌜ r ≡ min a b ⌝ }
 {
-    if on {
-        if b < a {
-            return b;
-        }
-    }
-    a
+    if b < a { b } else { a }
 }
 
 // The fewest ticks left of a vertex in `on`, which has one.
-fn least(left: [u32; 128], on: Vset) -> u32
+fn least(left: &[u32; 128], on: Vset) -> u32
     requires { ⌜ any (isIn on) 128 ≡ true ⌝ }
-    ensures { λ r. ⌜ LeastOf (place left) (isIn on) r ⌝ }
+    ensures { λ r. ⌜ LeastOf (place (now (left .entry))) (isIn on) r ⌝ }
 {
-    let t = vset::lowest(on);
-    let mut best = left[t];
-    let mut v = 0usize;
-    while v < 128 {
-        best = lesser(best, left[v], vset::test(on, v));
-        v += 1;
+    let v = vset::lowest(on);
+    let mut best = left[v];
+    let mut rest = vset::without(on, v);
+    while !vset::is_empty(rest) {
+        let v = vset::lowest(rest);
+        best = lesser(best, left[v]);
+        rest = vset::without(rest, v);
     }
     best
 }
 
-fn either_of(on: bool, x: u32, y: u32) -> u32
-    ensures { λ r. ⌜ r ≡ pick on x y ⌝ }
-{
-    if on { x } else { y }
-}
-
 // The instant for those that are finished now.
-fn stamp(finishes: [u32; 128], n: usize, new: Vset, instant: u32) -> [u32; 128]
-    requires { ⌜ n ≤ 128 ⌝ }
-    ensures { λ r. ⌜ r ≡ padded 128 (stamped finishes (isIn new) instant) n ⌝ }
+fn stamp(finishes: &mut [u32; 128], new: Vset, instant: u32)
+    requires { ⌜ length (now finishes) ≡ 128 ⌝ }
+    ensures { λ r. ⌜ Stamped (now (finishes .entry)) (isIn new) instant (now (finishes .exit)) ⌝ }
 {
-    let mut out = [0u32; 128];
-    let mut v = 0usize;
-    while v < n {
-        out[v] = either_of(vset::test(new, v), instant, finishes[v]);
-        v += 1;
+    let mut rest = new;
+    while !vset::is_empty(rest) {
+        let v = vset::lowest(rest);
+        finishes[v] = instant;
+        rest = vset::without(rest, v);
     }
-    out
 }
 
 // As many ticks at once as the vertex that runs with the fewest left has.
-fn leap(w: Work, g: Graph) -> Work
+fn leap(
+    m: Moment,
+    g: Graph,
+    cores: &[u8; 10],
+    words: &[u64; 20],
+    left: &mut [u32; 128],
+    finishes: &mut [u32; 128],
+) -> Moment
     requires { ⌜ AcceptedGraph g ⌝ }
-    requires { ⌜ Sound g w ⌝ }
-    requires { ⌜ 0 < count (isIn (w .busy)) 128 ⌝ }
-    ensures { λ r. ⌜ Leapt g w r ⌝ }
+    requires { ⌜ (now cores ≡ g .cores) × OfKinds (now words) (g .kind) (g .n) ⌝ }
+    requires { ⌜ Sound g (workOf g m (now left) (now finishes)) ⌝ }
+    requires { ⌜ 0 < count (isIn (m .busy)) 128 ⌝ }
+    ensures { λ r. ⌜ Leapt g (workOf g m (now (left .entry)) (now (finishes .entry))) (workOf g r (now (left .exit)) (now (finishes .exit))) ⌝ }
 {
-    let run = w.run;
-    let busy = w.busy;
-    let behind = w.behind;
-    let finishes = w.finishes;
-    let left = run.left;
-    let ran = run.ran;
-    let on = tick::choice::chosen(g, vset::minus(busy, behind), ran);
-    let next = run.advance(on, least(left, on));
-    let rest = next.left;
-    let still = tick::ready::busy(rest);
-    let hind = tick::ready::behind(g, still);
-    let new = vset::minus(vset::either(busy, behind), vset::either(still, hind));
-    let stamped = stamp(finishes, g.n, new, next.instant as u32);
-    Work {
-        run: next,
-        busy: still,
-        behind: hind,
-        finishes: stamped,
+    let was_busy = m.busy;
+    let was_behind = m.behind;
+    let able = vset::minus(was_busy, was_behind);
+    let on = tick::choice::chosen(g.kinds, cores, words, able, m.ran);
+    let d = least(left, on);
+    let ran = tick::remains::lower(left, on, d);
+    let busy = vset::minus(was_busy, vset::minus(on, ran));
+    let behind = tick::ready::behind(g, busy);
+    let new = vset::minus(
+        vset::either(was_busy, was_behind),
+        vset::either(busy, behind),
+    );
+    let instant = m.instant + d as u64;
+    stamp(finishes, new, instant as u32);
+    Moment {
+        instant,
+        ran,
+        busy,
+        behind,
     }
 }
 
 // Instant 0. What is finished there has its finish instant already: the table begins with zeros.
-fn at_start(g: Graph, run: Run) -> Work
+fn at_start(g: Graph, run: Run) -> Moment
     requires { ⌜ AcceptedGraph g ⌝ }
     requires { ⌜ Fresh g run ⌝ }
-    ensures { λ r. ⌜ (r .run ≡ run) × Kept g (leftOf run) r ⌝ }
+    ensures { λ r. ⌜ Kept g (leftOf run) (workOf g r (run .left) (replicate 128 0)) ⌝ }
 {
     let left = run.left;
+    let ran = run.ran;
     let busy = tick::ready::busy(left);
     let behind = tick::ready::behind(g, busy);
-    let finishes = [0u32; 128];
-    Work {
-        run,
+    Moment {
+        instant: run.instant,
+        ran,
         busy,
         behind,
-        finishes,
     }
 }
 
 // Leap after leap until no vertex has ticks left: at most N of them.
-pub fn play(g: Graph, run: Run) -> Work
+pub fn play(g: Graph, run: Run) -> Ended
     requires { ⌜ AcceptedGraph g ⌝ }
     requires { ⌜ Fresh g run ⌝ }
     ensures { λ r. ⌜ Ran g (leftOf run) r ⌝ }
 {
-    let mut w = at_start(g, run);
-    let mut busy = w.busy;
-    let mut many = vset::size(busy);
+    let kind = g.kind;
+    let cores = g.cores;
+    let words = tick::choice::of_kinds(&kind, g.n);
+    let mut left = run.left;
+    let mut finishes = [0u32; 128];
+    let mut m = at_start(g, run);
+    let mut many = vset::size(m.busy);
     while 0 < many {
-        w = leap(w, g);
-        busy = w.busy;
-        many = vset::size(busy);
+        m = leap(m, g, &cores, &words, &mut left, &mut finishes);
+        many = vset::size(m.busy);
     }
-    w
+    Ended {
+        instant: m.instant,
+        finishes,
+    }
 }

@@ -121,7 +121,7 @@ fn play_into(g: Graph, times: &[u32], finishes: &mut [u32]) -> Played
     let done = leaps::play(g, times::begun(g.n, times));
     let table = done.finishes;
     lent::hand_over(table, g.n, finishes);
-    Played::Finish(Ticks(done.run.instant))
+    Played::Finish(Ticks(done.instant))
 }
 
 fn play_on(g: Graph, times: &[u32], finishes: &mut [u32]) -> Played

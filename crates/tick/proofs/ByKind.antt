@@ -1,24 +1,23 @@
 -- Kind by kind: what is found for each kind is what is said of all.
-use mathlib.Core.Path.{_≡_, sym, ap, ap₂, _∙_}
+use mathlib.Core.Path.{_≡_, refl, sym, ap, ap₂, _∙_, fun-ext}
 use mathlib.Core.Logic.{⊎-elim}
-use mathlib.Core.Bool.{Bool, true, false, _&&_, _||_, or-false, and-false}
+use mathlib.Core.Bool.{Bool, true, false, not, _&&_, _||_, and-false}
 use Prim.Native.Nat.{ℕ, _+_, _-_, _≤_, _<_}
 use native.Mathlib.Omega.{arith}
 use lib.Dec.{ltb, eqb}
 use lib.ListN.{getD}
 use mathlib.Core.List.{List}
-use borrow.Author.Tests.{lt-ltb, le-ltb, le-leb, leb-true, eqb-true}
-use Rattle.model.specs.Places.{count}
-use Rattle.model.proofs.Bools.{cases, le-or-lt, both, left-of, right-of}
+use borrow.Author.Tests.{lt-ltb, le-ltb, le-leb, leb-true, eqb-true, eq-eqb}
+use Rattle.model.specs.Places.{any, count}
+use Rattle.model.proofs.Bools.{le-or-lt, both, left-of, right-of, same-test}
 use Rattle.model.specs.ListSchedule.{Fair}
-use Rattle.model.proofs.Places.{count-ext, count-sub, every-at, every-intro}
+use Rattle.model.proofs.Places.{any-elim, any-intro, any-none, count-ext, count-sub, every-at, every-intro}
 use Rattle.graph.specs.declared.Graph.{Graph}
 use Rattle.graph.specs.Model.{asModel, AcceptedGraph}
 use Rattle.vset.specs.Members.{isIn}
-use Rattle.vset.proofs.Gather.{below-next}
 use Rattle.tick.specs.declared.Run.{Run}
 use Rattle.tick.specs.Run.{stateOf}
-use Rattle.tick.specs.Choice.{ofKind, goOn, wait, filled, choice, fewMarked, fairOf}
+use Rattle.tick.specs.Choice.{ofKind, setAt, OfKinds, goOn, wait, starts, filled, choice, chosenBy, fewMarked, fairOf}
 use Rattle.tick.proofs.Turns.{count-past}
 
 -- a place of kind k is below n
@@ -30,69 +29,80 @@ pub of-kind-below : (l : List ℕ) (n k v : ℕ) → v < n → ofKind l n k v �
 unfolding ofKind
 of-kind-below l n k v h = ap (λ (b : Bool). b && eqb (getD l v 0) k) (lt-ltb v n h)
 
-of-kind-other : (l : List ℕ) (n k v : ℕ) → eqb (getD l v 0) k ≡ false → ofKind l n k v ≡ false
-unfolding ofKind
-of-kind-other l n k v h = ap (λ (b : Bool). ltb v n && b) h ∙ and-false (ltb v n)
+pub kinds-known : (g : Graph) → AcceptedGraph g → (v : ℕ) → v < g .n → getD (g .kind) v 0 < 10
+unfolding asModel
+kinds-known g A v l = omega (arith, A .well-formed .kind-known v l, A .few-kinds)
 
--- what is not in the mask does not run
-filled-off : (able ran mask : ℕ → Bool) (m v : ℕ) → mask v ≡ false → filled able ran mask m v ≡ false
-unfolding filled
-filled-off able ran mask m v e =
-    ap (λ (b : Bool). (able v && (ran v || ltb (count (wait able ran mask) v) (m - count (goOn able ran mask) 128))) && b) e
-    ∙ and-false (able v && (ran v || ltb (count (wait able ran mask) v) (m - count (goOn able ran mask) 128)))
+module _ (g : Graph) (A : AcceptedGraph g) (words : List ℕ) (W : OfKinds words (g .kind) (g .n)) where
+  -- the sets in the words are the vertices of each kind
+  pub mask-is : (k : ℕ) → k < g .kinds → isIn (setAt words k) ≡ ofKind (g .kind) (g .n) k
+  mask-is k l = fun-ext (W .each k (omega (arith, A .few-kinds)) .are)
 
-module _ (g : Graph) (able ran : ℕ → Bool) where
-  pub kind-filled : (k v : ℕ) → filled able ran (ofKind (g .kind) (g .n) k) (getD (g .cores) k 0) v ≡ eqb (getD (g .kind) v 0) k && choice g able ran v
-  unfolding choice
-  kind-filled k v = ⊎-elim here other (cases (eqb (getD (g .kind) v 0) k))
-    where
-      here : eqb (getD (g .kind) v 0) k ≡ true → filled able ran (ofKind (g .kind) (g .n) k) (getD (g .cores) k 0) v ≡ eqb (getD (g .kind) v 0) k && choice g able ran v
-      here q =
-          ap (λ (x : ℕ). filled able ran (ofKind (g .kind) (g .n) x) (getD (g .cores) x 0) v) (sym (eqb-true (getD (g .kind) v 0) k q))
-          ∙ sym (ap (λ (b : Bool). b && choice g able ran v) q)
+  module _ (able ran : ℕ → Bool) where
+    -- where no more are marked than there are cores, no more go on
+    pub few-go-on : fairOf g ran ≡ true → (k : ℕ) → k < g .kinds → count (goOn able ran (isIn (setAt words k))) 128 ≤ getD (g .cores) k 0
+    unfolding fairOf fewMarked goOn
+    few-go-on f k l =
+        let m : ℕ → Bool = ofKind (g .kind) (g .n) k in
+        let a = count-past (goOn able ran m) (g .n) 128 (A .few-vertices) (λ v h i. ap (λ (b : Bool). (able v && ran v) && b) (of-kind-past (g .kind) (g .n) k v h) ∙ and-false (able v && ran v)) in
+        let b = count-sub (goOn able ran m) (λ v. ran v && eqb (getD (g .kind) v 0) k) (g .n) (λ v h t.
+        both (ran v) (eqb (getD (g .kind) v 0) k) (right-of (able v) (ran v) (left-of (able v && ran v) (m v) t)) (sym (of-kind-below (g .kind) (g .n) k v h) ∙ right-of (able v && ran v) (m v) t)) in
+        let d = leb-true (count (λ v. ran v && eqb (getD (g .kind) v 0) k) (g .n)) (getD (g .cores) k 0) (every-at (fewMarked g ran) (g .kinds) f k l) in
+        rw (mask-is k l) (omega arith)
 
-      other : eqb (getD (g .kind) v 0) k ≡ false → filled able ran (ofKind (g .kind) (g .n) k) (getD (g .cores) k 0) v ≡ eqb (getD (g .kind) v 0) k && choice g able ran v
-      other q = none ∙ sym (ap (λ (b : Bool). b && choice g able ran v) q)
-        where
-          none : filled able ran (ofKind (g .kind) (g .n) k) (getD (g .cores) k 0) v ≡ false
-          none = filled-off able ran (ofKind (g .kind) (g .n) k) (getD (g .cores) k 0) v (of-kind-other (g .kind) (g .n) k v q)
+    abbrev stay : ℕ → Bool
+    stay u = able u && ran u
 
-  -- the kinds below k, and then kind k
-  pub next-kind : (k v : ℕ)
-      → (ltb (getD (g .kind) v 0) k && choice g able ran v) || (eqb (getD (g .kind) v 0) k && choice g able ran v) ≡ ltb (getD (g .kind) v 0) (k + 1) && choice g able ran v
-  next-kind k v = next (getD (g .kind) v 0) (choice g able ran v)
-    where
-      next : (t : ℕ) (r : Bool) → (ltb t k && r) || (eqb t k && r) ≡ ltb t (k + 1) && r
-      next t r =
-          ⊎-elim
-          (λ (q : eqb t k ≡ true).
-          let e = eqb-true t k q in
-          ap₂ (λ (x y : Bool). (x && r) || (y && r)) (le-ltb t k (omega arith)) q ∙ sym (ap (λ (x : Bool). x && r) (lt-ltb t (k + 1) (omega arith))))
-          (λ (q : eqb t k ≡ false).
-          ap (λ (y : Bool). (ltb t k && r) || (y && r)) q ∙ or-false (ltb t k && r) ∙ ap (λ (x : Bool). x && r) (below-next t k q))
-          (cases (eqb t k))
+    abbrev free : ℕ → Bool
+    free u = able u && not (ran u)
 
-  pub all-kinds : AcceptedGraph g → (v : ℕ) → ltb (getD (g .kind) v 0) (g .kinds) && choice g able ran v ≡ choice g able ran v
-  unfolding choice asModel
-  all-kinds A v =
-      ⊎-elim
-      (λ (l : g .n ≤ v).
-      let f : choice g able ran v ≡ false =
-      filled-off able ran (ofKind (g .kind) (g .n) (getD (g .kind) v 0)) (getD (g .cores) (getD (g .kind) v 0) 0) v (of-kind-past (g .kind) (g .n) (getD (g .kind) v 0) v l) in
-      ap (λ (b : Bool). ltb (getD (g .kind) v 0) (g .kinds) && b) f ∙ and-false (ltb (getD (g .kind) v 0) (g .kinds)) ∙ sym f)
-      (λ (l : v < g .n). ap (λ (b : Bool). b && choice g able ran v) (lt-ltb (getD (g .kind) v 0) (g .kinds) (A .well-formed .kind-known v l)))
-      (le-or-lt (g .n) v)
+    abbrev begins : ℕ → ℕ → Bool
+    begins v k = starts stay free (isIn (setAt words k)) (getD (g .cores) k 0) v
 
-  -- where no more are marked than there are cores, no more go on
-  pub few-go-on : AcceptedGraph g → fairOf g ran ≡ true → (k : ℕ) → k < g .kinds → count (goOn able ran (ofKind (g .kind) (g .n) k)) 128 ≤ getD (g .cores) k 0
-  unfolding fairOf fewMarked goOn
-  few-go-on A f k l =
-      let m : ℕ → Bool = ofKind (g .kind) (g .n) k in
-      let a = count-past (goOn able ran m) (g .n) 128 (A .few-vertices) (λ v h i. ap (λ (b : Bool). (able v && ran v) && b) (of-kind-past (g .kind) (g .n) k v h) ∙ and-false (able v && ran v)) in
-      let b = count-sub (goOn able ran m) (λ v. ran v && eqb (getD (g .kind) v 0) k) (g .n) (λ v h t.
-      both (ran v) (eqb (getD (g .kind) v 0) k) (right-of (able v) (ran v) (left-of (able v && ran v) (m v) t)) (sym (of-kind-below (g .kind) (g .n) k v h) ∙ right-of (able v && ran v) (m v) t)) in
-      let d = leb-true (count (λ v. ran v && eqb (getD (g .kind) v 0) k) (g .n)) (getD (g .cores) k 0) (every-at (fewMarked g ran) (g .kinds) f k l) in
-      omega arith
+    -- who starts does so among its own kind
+    own-kind : (v k : ℕ) → k < g .kinds → begins v k ≡ true → getD (g .kind) v 0 ≡ k
+    unfolding starts ofKind
+    own-kind v k l t =
+        let in-mask = right-of (free v) (isIn (setAt words k) v)
+        (left-of (free v && isIn (setAt words k) v) (ltb (count (λ u. free u && isIn (setAt words k) u) v) (getD (g .cores) k 0 - count (λ u. stay u && isIn (setAt words k) u) 128)) t) in
+        eqb-true (getD (g .kind) v 0) k (right-of (ltb v (g .n)) (eqb (getD (g .kind) v 0) k) (sym (ap (λ (p : ℕ → Bool). p v) (mask-is k l)) ∙ in-mask))
+
+    only-own : (v : ℕ) → getD (g .kind) v 0 < g .kinds → any (begins v) (g .kinds) ≡ begins v (getD (g .kind) v 0)
+    only-own v h =
+        same-test (any (begins v) (g .kinds)) (begins v (getD (g .kind) v 0))
+        (λ t. let j = any-elim (begins v) (g .kinds) t in rw (own-kind v (j .0) (j .1) (j .2)) (j .2))
+        (any-intro (begins v) (g .kinds) (getD (g .kind) v 0) h)
+
+    -- chosen kind by kind, from the words, is chosen
+    pub by-words : ((v : ℕ) → g .n ≤ v → able v ≡ false) → (v : ℕ) → chosenBy (g .kinds) (g .cores) words able ran v ≡ choice g able ran v
+    unfolding chosenBy choice filled starts wait goOn asModel
+    by-words past v = ⊎-elim out into (le-or-lt (g .n) v)
+      where
+        k : ℕ
+        k = getD (g .kind) v 0
+
+        none : (j : ℕ) → able v ≡ false → begins v j ≡ false
+        none j e = rw e refl
+
+        out : g .n ≤ v → stay v || any (begins v) (g .kinds) ≡ choice g able ran v
+        out l =
+            let e = past v l in
+            ap₂ (λ (a b : Bool). (a && ran v) || b) e (any-none (begins v) (g .kinds) (λ j h. none j e))
+            ∙ sym (ap (λ (a : Bool). (a && (ran v || ltb (count (wait able ran (ofKind (g .kind) (g .n) k)) v) (getD (g .cores) k 0 - count (goOn able ran (ofKind (g .kind) (g .n) k)) 128))) && ofKind (g .kind) (g .n) k v) e)
+
+        whole : (a b d : Bool) → (a && b) || (((a && not b) && true) && d) ≡ (a && (b || d)) && true
+        whole true true d = refl
+        whole true false true = refl
+        whole true false false = refl
+        whole false b d = refl
+
+        into : v < g .n → stay v || any (begins v) (g .kinds) ≡ choice g able ran v
+        into l =
+            let known = A .well-formed .kind-known v l in
+            let mine : ofKind (g .kind) (g .n) k v ≡ true = of-kind-below (g .kind) (g .n) k v l ∙ eq-eqb k k refl in
+            ap (λ (b : Bool). stay v || b) (only-own v known)
+            ∙ ap (λ (m : ℕ → Bool). stay v || ((free v && m v) && ltb (count (λ u. free u && m u) v) (getD (g .cores) k 0 - count (λ u. stay u && m u) 128))) (mask-is k known)
+            ∙ rw mine (whole (able v) (ran v) (ltb (count (wait able ran (ofKind (g .kind) (g .n) k)) v) (getD (g .cores) k 0 - count (goOn able ran (ofKind (g .kind) (g .n) k)) 128)))
 
 -- how many are marked of a kind, counted over all places
 pub marked-count : (g : Graph) (ran : ℕ → Bool) (k : ℕ) → g .n ≤ 128

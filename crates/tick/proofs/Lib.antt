@@ -1,7 +1,8 @@
 -- Laws that belong to no one function.
 pub mod Turns
-pub mod Filling
 pub mod Behind
+pub mod Lowering
+pub mod OfKinds
 pub mod ByKind
 pub mod Standing
 pub mod Records

@@ -1,7 +1,8 @@
 -- No public contract of this crate leaves a choice.
-use mathlib.Core.Path.{refl, sym, _∙_}
+use mathlib.Core.Path.{_≡_, refl, sym, _∙_}
 use Rattle.outcome.specs.OneOutcome.{OneOutcome}
 use Rattle.vset.proofs.Same.{same-set}
+use Rattle.tick.proofs.OfKinds.{same-words}
 use Rattle.tick.proofs.Run.tick as tick
 use Rattle.tick.proofs.Run.tick.Reads as tick-reads
 use Rattle.tick.proofs.Run.advance as advance
@@ -12,6 +13,10 @@ use Rattle.tick.proofs.ready.busy as busy
 use Rattle.tick.proofs.ready.busy.Reads as busy-reads
 use Rattle.tick.proofs.ready.behind as behind
 use Rattle.tick.proofs.ready.behind.Reads as behind-reads
+use Rattle.tick.proofs.remains.lower as lower
+use Rattle.tick.proofs.remains.lower.Reads as lower-reads
+use Rattle.tick.proofs.choice.of_kinds as of-kinds
+use Rattle.tick.proofs.choice.of_kinds.Reads as of-kinds-reads
 use Rattle.tick.proofs.choice.chosen as chosen
 use Rattle.tick.proofs.choice.chosen.Reads as chosen-reads
 use Rattle.tick.proofs.choice.fair as fair
@@ -31,6 +36,14 @@ busy-one κs a r r′ ws ws′ pre p q = (same-set r r′ _ p q, refl)
 
 pub behind-one : OneOutcome behind.ended behind-reads.Pre behind-reads.Post
 behind-one κs a r r′ ws ws′ pre p q = (same-set r r′ _ p q, refl)
+
+pub lower-one : OneOutcome lower.ended lower-reads.Pre lower-reads.Post
+lower-one κs a r r′ ws ws′ pre p q =
+    let e : ws .0 ≡ ws′ .0 = p .0 ∙ sym (q .0) in
+    (same-set r r′ _ (rw e at (p .1)) (q .1), λ i. (e i, ws .1))
+
+pub of-kinds-one : OneOutcome of-kinds.ended of-kinds-reads.Pre of-kinds-reads.Post
+of-kinds-one κs a r r′ ws ws′ pre p q = (same-words r r′ _ _ p q, refl)
 
 pub chosen-one : OneOutcome chosen.ended chosen-reads.Pre chosen-reads.Post
 chosen-one κs a r r′ ws ws′ pre p q = (same-set r r′ _ p q, refl)

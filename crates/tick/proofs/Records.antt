@@ -1,17 +1,17 @@
 -- The run record and the state that it stands for: a record moved on is the record of the state moved on.
-use mathlib.Core.Path.{_≡_, refl, sym, ap, ap₂, _∙_, fun-ext}
-use mathlib.Core.Logic.{_⊎_, inl, inr, ⊎-elim}
+use mathlib.Core.Path.{_≡_, sym, ap, ap₂, _∙_, fun-ext}
+use mathlib.Core.Logic.{⊎-elim}
 use mathlib.Core.List.{List}
-use mathlib.Core.Bool.{Bool, true, false, _&&_}
+use mathlib.Core.Bool.{Bool, false, _&&_}
 use Prim.Native.Nat.{ℕ, _+_, _-_, _≤_, _<_}
 use native.Mathlib.Omega.{arith}
 use lib.Dec.{ltb}
-use lib.ListN.{getD}
-use Rattle.model.specs.Places.{pick, padded}
+use lib.ListN.{getD, List·getD-eq-default}
+use Rattle.model.specs.Places.{pick, table}
 use Rattle.model.specs.Graph.{Graph}
 use Rattle.model.specs.ListSchedule.{State, chosen, leap}
-use Rattle.model.proofs.Bools.{cases, le-or-lt}
-use Rattle.model.proofs.Tables.{padded-at, padded-past}
+use Rattle.model.proofs.Bools.{le-or-lt}
+use Rattle.model.proofs.Tables.{table-length, table-at, padded-at, padded-past}
 use Rattle.vset.specs.declared.Vset.{Vset}
 use Rattle.vset.specs.Members.{Members}
 use Rattle.vset.proofs.Gather.{members-ext}
@@ -20,21 +20,28 @@ use Rattle.tick.specs.declared.Run.{Run}
 use Rattle.tick.specs.Run.{leftOf, stateOf, recordOf, after}
 use Rattle.tick.specs.Ready.{someLeft}
 use Rattle.tick.specs.Remains.{lowered}
+use Rattle.tick.proofs.Turns.{table-padded}
 
 -- where a record that the code has moved on has the remainders and marks of d more ticks
-pub moved-on : (r : Run) (on : ℕ → Bool) (d : ℕ) (next : List ℕ) (still : Vset) → ((v : ℕ) → on v ≡ true → v < r .n)
-    → next ≡ padded 128 (lowered (r .left) on d) (r .n) → Members still (λ v. on v && someLeft next v)
+pub moved-on : (r : Run) (on : ℕ → Bool) (d : ℕ) (next : List ℕ) (still : Vset) → r .n ≤ 128 → ((v : ℕ) → r .n ≤ v → leftOf r v ≡ 0)
+    → next ≡ table (lowered (r .left) on d) 128 → Members still (λ v. on v && someLeft next v)
     → _≡_ {A = Run} (record { n = r .n; instant = r .instant + d; left = next; ran = still }) (recordOf (r .n) (r .instant + d) (after on d (stateOf r)))
 unfolding recordOf after stateOf leftOf lowered someLeft
-moved-on r on d next still below e m =
-    ap₂ {C = Run} (λ (x : List ℕ) (y : Vset). record { n = r .n; instant = r .instant + d; left = x; ran = y }) e
-    (set-of still (after on d (stateOf r) .ran) (members-ext still (λ v. on v && someLeft next v) (after on d (stateOf r) .ran) m (λ v. mark v (cases (on v)))))
+moved-on r on d next still few past e m =
+    ap₂ {C = Run} (λ (x : List ℕ) (y : Vset). record { n = r .n; instant = r .instant + d; left = x; ran = y })
+    (e ∙ table-padded (lowered (r .left) on d) 128 (r .n) few (λ v l. omega (arith, past v l)))
+    (set-of still (after on d (stateOf r) .ran) (members-ext still (λ v. on v && someLeft next v) (after on d (stateOf r) .ran) m (λ v. ap (λ (x : ℕ). on v && ltb 0 x) (at v))))
   where
-    mark : (v : ℕ) → (on v ≡ true) ⊎ (on v ≡ false) → on v && ltb 0 (getD next v 0) ≡ on v && ltb 0 (getD (r .left) v 0 - pick (on v) d 0)
-    mark v (inl t) =
-        let b = below v t in
-        ap (λ (x : ℕ). on v && ltb 0 x) (ap (λ (l : List ℕ). getD l v 0) e ∙ padded-at 128 (lowered (r .left) on d) (r .n) v b)
-    mark v (inr f) = rw f refl
+    at : (v : ℕ) → getD next v 0 ≡ getD (r .left) v 0 - pick (on v) d 0
+    at v =
+        ap (λ (l : List ℕ). getD l v 0) e
+        ∙ ⊎-elim
+        (λ (h : 128 ≤ v). List·getD-eq-default (table (lowered (r .left) on d) 128) 0 (omega (arith, table-length (lowered (r .left) on d) 128)) ∙ sym (past-zero v h))
+        (λ (h : v < 128). table-at (lowered (r .left) on d) 128 v h)
+        (le-or-lt 128 v)
+      where
+        past-zero : (v : ℕ) → 128 ≤ v → getD (r .left) v 0 - pick (on v) d 0 ≡ 0
+        past-zero v h = omega (arith, past v (omega arith))
 
 -- a leap is so many ticks of those that are chosen
 pub after-leap : (G : Graph) (d : ℕ) (s : State) (on : ℕ → Bool) → ((v : ℕ) → on v ≡ chosen G s v) → after on d s ≡ leap G d s

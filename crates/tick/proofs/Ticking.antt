@@ -1,7 +1,8 @@
 -- What the sets that a tick builds are, in the terms of the model: over any record whose places from N on are zero.
 use mathlib.Core.Path.{_≡_, sym, ap, ap₂, _∙_, fun-ext}
 use mathlib.Core.Logic.{⊎-elim}
-use mathlib.Core.Bool.{Bool, true, not, _&&_}
+use mathlib.Core.List.{List}
+use mathlib.Core.Bool.{Bool, true, false, not, _&&_}
 use Prim.Native.Nat.{ℕ, _≤_, _<_, zero-le}
 use lib.Dec.{ltb}
 use lib.ListN.{getD}
@@ -17,7 +18,8 @@ use Rattle.vset.specs.Members.{isIn}
 use Rattle.tick.specs.declared.Run.{Run}
 use Rattle.tick.specs.Run.{leftOf, stateOf, over}
 use Rattle.tick.specs.Ready.{someLeft, isBehind}
-use Rattle.tick.specs.Choice.{choice}
+use Rattle.tick.specs.Choice.{OfKinds, chosenBy}
+use Rattle.tick.proofs.ByKind.{by-words}
 use Rattle.tick.proofs.Standing.{ready-is, finished-is, all-finished, chosen-is}
 
 module _ (g : Graph) (A : AcceptedGraph g) (r : Run) (past : (v : ℕ) → g .n ≤ v → leftOf r v ≡ 0) (busy : ℕ → Bool) (is-busy : (v : ℕ) → busy v ≡ someLeft (r .left) v) where
@@ -48,10 +50,15 @@ module _ (g : Graph) (A : AcceptedGraph g) (r : Run) (past : (v : ℕ) → g .n 
           into : v < g .n → ltb 0 (getD (r .left) v 0) && not (isBehind (asModel g) (someLeft (r .left)) v) ≡ ready (asModel g) (leftOf r) v
           into l = sym (ready-is (A .well-formed) (A .acyclic) (leftOf r) v l)
 
-      module _ (on : ℕ → Bool) (is-on : (v : ℕ) → on v ≡ choice g able (isIn (r .ran)) v) where
+      able-past : (v : ℕ) → g .n ≤ v → able v ≡ false
+      unfolding asModel
+      able-past v l = able-is v ∙ ready-past (A .well-formed) (leftOf r) v l (past v l)
+
+      module _ (words : List ℕ) (W : OfKinds words (g .kind) (g .n)) (on : ℕ → Bool)
+          (is-on : (v : ℕ) → on v ≡ chosenBy (g .kinds) (g .cores) words able (isIn (r .ran)) v) where
         pub on-is : (v : ℕ) → on v ≡ chosen (asModel g) (stateOf r) v
         unfolding stateOf
-        on-is v = is-on v ∙ chosen-is g A (stateOf r) past able able-is v
+        on-is v = is-on v ∙ by-words g A words W able (isIn (r .ran)) able-past v ∙ chosen-is g A (stateOf r) past able able-is v
 
         -- who runs is a vertex of the graph and has a tick left
         pub on-runs : (v : ℕ) → on v ≡ true → (v < g .n) × (1 ≤ leftOf r v)

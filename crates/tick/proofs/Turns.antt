@@ -1,12 +1,20 @@
 -- `every`, `sum` and `count` with one place more, and with places that do not count; a table is what it holds.
-use mathlib.Core.Path.{_≡_, refl, _∙_}
+use mathlib.Core.Path.{_≡_, refl, sym, _∙_}
+use mathlib.Core.Logic.{⊎-elim}
+use mathlib.Core.List.{List}
 use mathlib.Core.Bool.{Bool, true, false, _&&_}
 use Prim.Native.Nat.{ℕ, zero, suc, _+_, _≤_, _<_}
 use native.Mathlib.Numerals.{add-one}
 use native.Mathlib.Omega.{arith}
 use native.Mathlib.Decide.{ℕ-discrete}
-use Rattle.model.specs.Places.{every, sum, count, table}
+use lib.Dec.{eqb}
+use lib.ListN.{getD, set, length}
+use lib.Seq.{ext-getD, getD-set-same, getD-set-other}
+use borrow.Author.Tests.{eq-eqb, ne-eqb}
+use Rattle.model.specs.Places.{pick, every, sum, count, table, padded}
+use Rattle.model.proofs.Bools.{le-or-lt}
 use Rattle.model.proofs.Places.{count-not-there}
+use Rattle.model.proofs.Tables.{table-length, table-at, padded-length, padded-at, padded-past}
 
 pub every-none : (p : ℕ → Bool) → every p 0 ≡ true
 unfolding every
@@ -38,3 +46,21 @@ pub table-ext : (f g : ℕ → ℕ) (n : ℕ) → ((v : ℕ) → v < n → f v �
 unfolding table
 table-ext f g zero h = refl
 table-ext f g (suc n) h = rw (table-ext f g n (λ v l. h v (omega arith)), h n (omega arith)) refl
+
+-- a list is a table of what stands in it
+pub as-table : (f : ℕ → ℕ) (n : ℕ) (l : List ℕ) → length l ≡ n → ((v : ℕ) → v < n → getD l v 0 ≡ f v) → l ≡ table f n
+as-table f n l long h = ext-getD 0 l (table f n) (long ∙ sym (table-length f n)) (λ v k. let b : v < n = omega (arith, long) in h v b ∙ sym (table-at f n v b))
+
+-- zeros from n on may be part of the table or not
+pub table-padded : (f : ℕ → ℕ) (l n : ℕ) → n ≤ l → ((v : ℕ) → n ≤ v → f v ≡ 0) → table f l ≡ padded l f n
+table-padded f l n h past =
+    sym (as-table f l (padded l f n) (padded-length l f n h) (λ v k.
+    ⊎-elim (λ (b : n ≤ v). padded-past l f n v b ∙ sym (past v b)) (λ (b : v < n). padded-at l f n v b) (le-or-lt n v)))
+
+-- a store changes one place
+pub put-at : (l : List ℕ) (t x v : ℕ) → t < length l → getD (set l t x) v 0 ≡ pick (eqb v t) x (getD l v 0)
+put-at l t x v h = go (ℕ-discrete v t)
+  where
+    go : Dec (v ≡ t) → getD (set l t x) v 0 ≡ pick (eqb v t) x (getD l v 0)
+    go (yes e) = rw (e, eq-eqb t t refl) (getD-set-same l t x 0 h)
+    go (no e) = rw (ne-eqb v t e) (getD-set-other l t v x 0 e)

@@ -1,80 +1,90 @@
 // Which of the ready vertices run: those that ran in the tick before, and then the lowest numbered others of each kind, as far as
 // its cores go. How many of a kind are ready and which comes first is read from the words masked by kind.
 ghost use mathlib.Core.Path.{_≡_};
-ghost use mathlib.Core.Bool.{true, _&&_};
-ghost use Prim.Native.Nat.{_≤_, _<_};
-ghost use lib.Dec.{eqb};
-ghost use lib.ListN.{getD};
+ghost use mathlib.Core.Bool.{_&&_};
+ghost use Prim.Native.Nat.{ℕ, _≤_, _<_};
+ghost use lib.Dec.{leb};
+ghost use lib.ListN.{getD, length};
 ghost use Rattle.model.specs.Places.{count};
 ghost use Rattle.graph.specs.Model.{AcceptedGraph};
 ghost use Rattle.vset.specs.Members.{isIn, Members};
-ghost use Rattle.tick.specs.Choice.{ofKind, goOn, filled, choice, fewMarked, fairOf};
+ghost use Rattle.tick.specs.Choice.{setAt, OfKinds, Joined, goOn, starts, chosenBy, fairOf};
 use graph::Graph;
 use vset::Vset;
 
-// The vertices of kind k among the first n.
-fn of_kind(kind: [u8; 128], n: usize, k: u8) -> Vset
-    requires { ⌜ n ≤ 128 ⌝ }
-    ensures { λ r. ⌜ Members r (ofKind kind n k) ⌝ }
+// The set of kind k, which stands in two of the words.
+fn set_at(words: &[u64; 20], k: usize) -> Vset
+    requires { ⌜ k < 10 ⌝ }
+    ensures { λ r. ⌜ r ≡ setAt (now (words .entry)) k ⌝ }
 {
-    let mut got = vset::none();
+    Vset {
+        lo: words[2 * k],
+        hi: words[2 * k + 1],
+    }
+}
+
+// Vertex v joins the set of its kind.
+fn join(words: &mut [u64; 20], kind: u8, v: usize)
+    requires { ⌜ length (now words) ≡ 20 ⌝ }
+    requires { ⌜ (kind < 10) × (v < 128) ⌝ }
+    ensures { λ r. ⌜ Joined (now (words .entry)) kind v (now (words .exit)) ⌝ }
+{
+    let k = kind as usize;
+    let more = vset::with(set_at(words, k), v);
+    words[2 * k] = more.lo;
+    words[2 * k + 1] = more.hi;
+}
+
+// The vertices of each kind among the first n.
+pub fn of_kinds(kind: &[u8; 128], n: usize) -> [u64; 20]
+    requires { ⌜ n ≤ 128 ⌝ }
+    requires { ⌜ ((v : ℕ) → v < n → getD (now kind) v 0 < 10) ⌝ }
+    ensures { λ r. ⌜ OfKinds r (now (kind .entry)) n ⌝ }
+{
+    let mut words = [0u64; 20];
     let mut v = 0usize;
     while v < n {
-        got = vset::with_if(got, v, kind[v] == k);
+        join(&mut words, kind[v], v);
         v += 1;
     }
-    got
+    words
 }
 
-// Of the ready vertices in the mask, those that run on m cores.
-fn fill(able: Vset, ran: Vset, mask: Vset, m: u32) -> Vset
-    requires { ⌜ count (goOn (isIn able) (isIn ran) (isIn mask)) 128 ≤ m ⌝ }
-    ensures { λ r. ⌜ Members r (filled (isIn able) (isIn ran) (isIn mask) m) ⌝ }
+// Of the free vertices in the mask, those that start on the m cores that the vertices that stay leave.
+fn started(stay: Vset, free: Vset, mask: Vset, m: u8) -> Vset
+    requires { ⌜ count (λ v. isIn stay v && isIn mask v) 128 ≤ m ⌝ }
+    ensures { λ r. ⌜ Members r (starts (isIn stay) (isIn free) (isIn mask) m) ⌝ }
 {
-    let mine = vset::both(able, mask);
-    let stay = vset::both(mine, ran);
-    let free = vset::minus(mine, ran);
-    let more = vset::first(free, m - vset::size(stay));
-    vset::either(stay, more)
-}
-
-// The vertices of kind k that run.
-fn chosen_of_kind(g: Graph, able: Vset, ran: Vset, k: usize) -> Vset
-    requires { ⌜ AcceptedGraph g ⌝ }
-    requires { ⌜ fairOf g (isIn ran) ≡ true ⌝ }
-    requires { ⌜ k < g .kinds ⌝ }
-    ensures { λ r. ⌜ Members r (λ v. eqb (getD (g .kind) v 0) k && choice g (isIn able) (isIn ran) v) ⌝ }
-{
-    let kind = g.kind;
-    let cores = g.cores;
-    fill(able, ran, of_kind(kind, g.n, k as u8), cores[k] as u32)
+    let mine = vset::both(free, mask);
+    if vset::is_empty(mine) {
+        return mine;
+    }
+    let taken = vset::size(vset::both(stay, mask));
+    vset::first(mine, m as u32 - taken)
 }
 
 // The vertices that run in the next tick, of every kind.
-pub fn chosen(g: Graph, able: Vset, ran: Vset) -> Vset
-    requires { ⌜ AcceptedGraph g ⌝ }
-    requires { ⌜ fairOf g (isIn ran) ≡ true ⌝ }
-    ensures { λ r. ⌜ Members r (choice g (isIn able) (isIn ran)) ⌝ }
+pub fn chosen(kinds: usize, cores: &[u8; 10], words: &[u64; 20], able: Vset, ran: Vset) -> Vset
+    requires { ⌜ kinds ≤ 10 ⌝ }
+    requires { ⌜ ((k : ℕ) → k < kinds → count (goOn (isIn able) (isIn ran) (isIn (setAt (now words) k))) 128 ≤ getD (now cores) k 0) ⌝ }
+    ensures { λ r. ⌜ Members r (chosenBy kinds (now (cores .entry)) (now (words .entry)) (isIn able) (isIn ran)) ⌝ }
 {
-    let mut got = vset::none();
+    let stay = vset::both(able, ran);
+    let free = vset::minus(able, ran);
+    let mut got = stay;
     let mut k = 0usize;
-    while k < g.kinds {
-        got = vset::either(got, chosen_of_kind(g, able, ran, k));
+    while k < kinds {
+        got = vset::either(got, started(stay, free, set_at(words, k), cores[k]));
         k += 1;
     }
     got
 }
 
-// Whether no more vertices of kind k are marked than it has cores.
-fn fair_of_kind(g: Graph, ran: Vset, k: usize) -> bool
-    requires { ⌜ AcceptedGraph g ⌝ }
-    requires { ⌜ k < g .kinds ⌝ }
-    ensures { λ r. ⌜ r ≡ fewMarked g (isIn ran) k ⌝ }
+// Whether no more vertices in the mask are marked than there are cores for it.
+fn few_marked(ran: Vset, mask: Vset, m: u8) -> bool
+    ensures { λ r. ⌜ r ≡ leb (count (λ v. isIn ran v && isIn mask v) 128) m ⌝ }
 {
-    let kind = g.kind;
-    let cores = g.cores;
-    let marked = vset::both(ran, of_kind(kind, g.n, k as u8));
-    vset::size(marked) <= (cores[k] as u32)
+    vset::size(vset::both(ran, mask)) <= m as u32
 }
 
 // Whether no more vertices of a kind are marked than it has cores, for every kind.
@@ -82,10 +92,13 @@ pub fn fair(g: Graph, ran: Vset) -> bool
     requires { ⌜ AcceptedGraph g ⌝ }
     ensures { λ r. ⌜ r ≡ fairOf g (isIn ran) ⌝ }
 {
+    let kind = g.kind;
+    let cores = g.cores;
+    let words = of_kinds(&kind, g.n);
     let mut ok = true;
     let mut k = 0usize;
     while k < g.kinds {
-        ok = ok & fair_of_kind(g, ran, k);
+        ok = ok & few_marked(ran, set_at(&words, k), cores[k]);
         k += 1;
     }
     ok

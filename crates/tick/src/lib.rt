@@ -13,7 +13,7 @@ use vset::Vset;
 
 pub mod choice;
 pub mod ready;
-mod remains;
+pub mod remains;
 
 // N, the instant, the ticks remaining of each vertex, and which vertices ran in the last tick and are unfinished. Places from N on
 // are zero and unmarked.
@@ -42,12 +42,12 @@ impl Run {
         requires { ⌜ self .n ≤ 128 ⌝ }
         requires { ⌜ self .instant + d < 18446744073709551616 ⌝ }
         requires { ⌜ ((v : ℕ) → isIn on v ≡ true → (v < self .n) × (d ≤ leftOf self v)) ⌝ }
+        requires { ⌜ ((v : ℕ) → self .n ≤ v → leftOf self v ≡ 0) ⌝ }
         ensures { λ r. ⌜ r ≡ recordOf (self .n) (self .instant + d) (after (isIn on) d (stateOf self)) ⌝ }
     {
-        let left = self.left;
-        let next = remains::lower(left, self.n, on, d);
-        self.left = next;
-        self.ran = vset::both(on, ready::busy(next));
+        let mut left = self.left;
+        self.ran = remains::lower(&mut left, on, d);
+        self.left = left;
         self.instant = self.instant + (d as u64);
         self
     }
@@ -68,7 +68,10 @@ impl Run {
             };
         }
         let able = vset::minus(busy, ready::behind(g, busy));
-        let on = choice::chosen(g, able, ran);
+        let kind = g.kind;
+        let cores = g.cores;
+        let words = choice::of_kinds(&kind, g.n);
+        let on = choice::chosen(g.kinds, &cores, &words, able, ran);
         self = self.advance(on, 1);
         Ticked {
             report: Report::Moved,

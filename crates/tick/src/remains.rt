@@ -1,37 +1,35 @@
 // The ticks remaining of each vertex.
 ghost use mathlib.Core.Path.{_≡_};
-ghost use mathlib.Core.Bool.{true};
+ghost use mathlib.Core.Bool.{true, _&&_};
 ghost use Prim.Native.Nat.{ℕ, _+_, _≤_, _<_};
 ghost use lib.Dec.{leb};
-ghost use lib.ListN.{getD};
-ghost use Rattle.model.specs.Places.{pick, every, sum, padded};
-ghost use Rattle.vset.specs.Members.{isIn};
+ghost use lib.ListN.{getD, length};
+ghost use Rattle.model.specs.Places.{every, sum, table};
+ghost use Rattle.vset.specs.Members.{isIn, Members};
 ghost use Rattle.tick.specs.Run.{MOST};
+ghost use Rattle.tick.specs.Ready.{someLeft};
 ghost use Rattle.tick.specs.Remains.{lowered, noMore, place};
 use vset::Vset;
 
 // Document 01's limit for an instant and all that remains from it on.
 const MOST: u64 = 128000000;
 
-fn spent(on: bool, d: u32) -> u32
-    ensures { λ r. ⌜ r ≡ pick on d 0 ⌝ }
+// d ticks less for each vertex in `on`, where they stand; those of them that have ticks left after that.
+pub fn lower(left: &mut [u32; 128], on: Vset, d: u32) -> Vset
+    requires { ⌜ length (now left) ≡ 128 ⌝ }
+    requires { ⌜ ((v : ℕ) → isIn on v ≡ true → d ≤ getD (now left) v 0) ⌝ }
+    ensures { λ r. ⌜ (now (left .exit) ≡ table (lowered (now (left .entry)) (isIn on) d) 128) × Members r (λ v. isIn on v && someLeft (now (left .exit)) v) ⌝ }
 {
-    if on { d } else { 0 }
-}
-
-// What is left of the first n vertices after d ticks of each that runs.
-pub fn lower(left: [u32; 128], n: usize, on: Vset, d: u32) -> [u32; 128]
-    requires { ⌜ n ≤ 128 ⌝ }
-    requires { ⌜ ((v : ℕ) → isIn on v ≡ true → d ≤ getD left v 0) ⌝ }
-    ensures { λ r. ⌜ r ≡ padded 128 (lowered left (isIn on) d) n ⌝ }
-{
-    let mut out = [0u32; 128];
-    let mut v = 0usize;
-    while v < n {
-        out[v] = left[v] - spent(vset::test(on, v), d);
-        v += 1;
+    let mut still = vset::none();
+    let mut rest = on;
+    while !vset::is_empty(rest) {
+        let v = vset::lowest(rest);
+        let more = left[v] - d;
+        left[v] = more;
+        still = vset::with_if(still, v, 0 < more);
+        rest = vset::without(rest, v);
     }
-    out
+    still
 }
 
 // Whether no remainder exceeds its WCET.

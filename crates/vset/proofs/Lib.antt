@@ -5,3 +5,4 @@ pub mod Same
 pub mod Rank
 pub mod Outcomes
 pub mod Gather
+pub mod Taking

@@ -1,11 +1,15 @@
-use native.Mathlib.Omega.{arith}
 use mathlib.Core.Path.{_≡_, ap, ap₂, _∙_}
+use mathlib.Core.List.{List}
 use mathlib.Core.Bool.{Bool, not, _&&_}
-use Prim.Native.Nat.{_+_}
+use denote.Ref.{now}
+use Prim.Native.Nat.{ℕ}
+use native.Mathlib.Omega.{arith}
 use Rattle.vset.specs.Members.{isIn}
-use Rattle.tick.specs.Run.{leftOf, recordOf}
-use Rattle.tick.specs.declared.Run.{Run}
-use Rattle.schedule.proofs.OneLeap.{some-on, within, at-most, leapt}
+use Rattle.tick.specs.Run.{leftOf}
+use Rattle.tick.specs.Choice.{chosenBy}
+use Rattle.tick.proofs.ByKind.{few-go-on}
+use Rattle.schedule.specs.Leaps.{workOf}
+use Rattle.schedule.proofs.OneLeap.{some-on, at-most, leapt}
 use borrow.Author.Needs.{needs}
 use Rattle.schedule.proofs.leaps.leap.Statement.{statement}
 use Rattle.schedule.proofs.leaps.leap.Tie as tie
@@ -13,78 +17,97 @@ use Rattle.schedule.proofs.leaps.leap.Reads as reads
 use Rattle.schedule.proofs.leaps.leap.Lts as lts
 use Rattle.schedule.proofs.leaps.least.Reads as least-reads
 use Rattle.schedule.proofs.leaps.stamp.Reads as stamp-reads
-use Rattle.tick.proofs.Run.advance.Reads as advance-reads
 use Rattle.tick.proofs.choice.chosen.Reads as chosen-reads
 use Rattle.tick.proofs.ready.behind.Reads as behind-reads
-use Rattle.tick.proofs.ready.busy.Reads as busy-reads
+use Rattle.tick.proofs.remains.lower.Reads as lower-reads
 use Rattle.vset.proofs.either.Reads as either-reads
 use Rattle.vset.proofs.minus.Reads as minus-reads
 
--- src/leaps.rt:87:38
+-- what is chosen, by the graph's own cores
+on-by : (c : tie.After-chosen) (v : ℕ) → isIn (c .chosen .result) v ≡ chosenBy (c .before .before .before .before .args .g .kinds) (c .before .before .before .before .args .g .cores) (now (c .before .before .before .before .args .words)) (isIn (c .before .minus .result)) (isIn (c .before .before .before .before .args .m .ran)) v
+on-by c v =
+    let s = c .before .before .before .before in
+    c .chosen .ensures .are v ∙ ap (λ (l : List ℕ). chosenBy (s .args .g .kinds) l (now (s .args .words)) (isIn (c .before .minus .result)) (isIn (s .args .m .ran)) v) (s .pre .1 .0 .0)
+
+-- src/leaps.rt:79:9
 minus-requires : tie.Need-minus-requires
 minus-requires c κs = search needs
 
--- src/leaps.rt:87:9
+-- src/leaps.rt:80:9
 chosen-requires : tie.Need-chosen-requires
-chosen-requires c κs = ((c .before .before .before .before .before .before .before .pre .0), c .before .before .before .before .before .before .before .pre .1 .0 .fair)
+chosen-requires c κs =
+    let s = c .before .before .before in
+    (s .pre .0 .few-kinds, rw (s .pre .1 .0 .0) (few-go-on (s .args .g) (s .pre .0) (now (s .args .words)) (s .pre .1 .0 .1) (isIn (c .minus .result)) (isIn (s .args .m .ran)) (s .pre .1 .1 .0 .fair)))
 
--- src/leaps.rt:88:32
+-- src/leaps.rt:81:9
 least-requires : tie.Need-least-requires
 least-requires c κs =
-    let s = c .before .before .before .before .before .before .before .before in
-    some-on (s .args .g) (s .pre .0) (s .args .w) (s .pre .1 .0) (s .pre .1 .1) (isIn (c .before .minus .result)) (isIn (c .chosen .result)) (c .before .minus .ensures .are) (c .chosen .ensures .are)
+    let o = c .before in
+    let s = o .before .before .before .before in
+    some-on (s .args .g) (s .pre .0) (workOf (s .args .g) (s .args .m) (now (s .args .left)) (now (s .args .finishes))) (s .pre .1 .1 .0) (s .pre .1 .1 .1) (isIn (o .before .minus .result)) (isIn (o .chosen .result)) (o .before .minus .ensures .are) (now (s .args .words)) (s .pre .1 .0 .1) (on-by (o))
 
--- src/leaps.rt:88:9
-advance-requires : tie.Need-advance-requires
-unfolding leftOf
-advance-requires c κs =
-    let s = c .before .before .before .before .before .before .before .before .before in
-    let h = s .pre .1 .0 in
-    let m = at-most (s .args .g) (s .pre .0) (s .args .w) h (s .pre .1 .1) (isIn (c .before .before .minus .result)) (isIn (c .before .chosen .result)) (c .before .before .minus .ensures .are) (c .before .chosen .ensures .are) (c .least .result) (c .least .ensures) in
-    (omega (arith, h .agrees, s .pre .0 .few-vertices), (omega (arith, m), within (s .args .g) (s .pre .0) (s .args .w) h (s .pre .1 .1) (isIn (c .before .before .minus .result)) (isIn (c .before .chosen .result)) (c .before .before .minus .ensures .are) (c .before .chosen .ensures .are) (c .least .result) (c .least .ensures)))
+-- src/leaps.rt:82:9
+lower-requires : tie.Need-lower-requires
+lower-requires c κs = search needs
 
--- src/leaps.rt:90:9
-busy-requires : tie.Need-busy-requires
-busy-requires c κs = search needs
-
--- src/leaps.rt:91:9
-behind-requires : tie.Need-behind-requires
-behind-requires c κs = search needs
-
--- src/leaps.rt:92:27
-either-requires : tie.Need-either-requires
-either-requires c κs = search needs
-
--- src/leaps.rt:92:55
-either-requires-2 : tie.Need-either-requires-2
-either-requires-2 c κs = search needs
-
--- src/leaps.rt:92:9
+-- src/leaps.rt:83:38
 minus-requires-2 : tie.Need-minus-requires-2
 minus-requires-2 c κs = search needs
 
--- src/leaps.rt:93:45
+-- src/leaps.rt:83:9
+minus-requires-3 : tie.Need-minus-requires-3
+minus-requires-3 c κs = search needs
+
+-- src/leaps.rt:84:9
+behind-requires : tie.Need-behind-requires
+behind-requires c κs = search needs
+
+-- src/leaps.rt:85:27
+either-requires : tie.Need-either-requires
+either-requires c κs = search needs
+
+-- src/leaps.rt:85:63
+either-requires-2 : tie.Need-either-requires-2
+either-requires-2 c κs = search needs
+
+-- src/leaps.rt:85:9
+minus-requires-4 : tie.Need-minus-requires-4
+minus-requires-4 c κs = search needs
+
+-- src/leaps.rt:86:31
+cast-instant : tie.Need-cast-instant
+cast-instant c = search needs
+
+-- src/leaps.rt:86:19
+add-instant : tie.Need-add-instant
+unfolding leftOf
+add-instant c =
+    let o = c .before .before .before .before .before .before .before .before .before .before .before in
+    let s = o .before .before .before .before in
+    omega (arith, at-most (s .args .g) (s .pre .0) (workOf (s .args .g) (s .args .m) (now (s .args .left)) (now (s .args .finishes))) (s .pre .1 .1 .0) (s .pre .1 .1 .1) (isIn (o .before .minus .result)) (isIn (o .chosen .result)) (o .before .minus .ensures .are) (now (s .args .words)) (s .pre .1 .0 .1) (on-by (o)) (c .before .before .before .before .before .before .before .before .before .least .result) (c .before .before .before .before .before .before .before .before .before .least .ensures))
+
+-- src/leaps.rt:87:26
 cast-stamp : tie.Need-cast-stamp
-unfolding recordOf leftOf
+unfolding leftOf
 cast-stamp c =
-    let s = c .before .before .before .before .before .before .before .before .before .before .before .before .before .before .before .before .before in
-    let m = at-most (s .args .g) (s .pre .0) (s .args .w) (s .pre .1 .0) (s .pre .1 .1) (isIn (c .before .before .before .before .before .before .before .before .before .before .minus .result)) (isIn (c .before .before .before .before .before .before .before .before .before .chosen .result)) (c .before .before .before .before .before .before .before .before .before .before .minus .ensures .are) (c .before .before .before .before .before .before .before .before .before .chosen .ensures .are) (c .before .before .before .before .before .before .before .before .least .result) (c .before .before .before .before .before .before .before .before .least .ensures) in
-    let e : c .before .before .before .before .before .before .before .advance .result .instant ≡ s .args .w .run .instant + c .before .before .before .before .before .before .before .before .least .result = ap (λ (r : Run). r .instant) (c .before .before .before .before .before .before .before .advance .ensures) in
-    omega (arith, m, e)
+    let o = c .before .before .before .before .before .before .before .before .before .before .before .before in
+    let s = o .before .before .before .before in
+    omega (arith, at-most (s .args .g) (s .pre .0) (workOf (s .args .g) (s .args .m) (now (s .args .left)) (now (s .args .finishes))) (s .pre .1 .1 .0) (s .pre .1 .1 .1) (isIn (o .before .minus .result)) (isIn (o .chosen .result)) (o .before .minus .ensures .are) (now (s .args .words)) (s .pre .1 .0 .1) (on-by (o)) (c .before .before .before .before .before .before .before .before .before .before .least .result) (c .before .before .before .before .before .before .before .before .before .before .least .ensures))
 
--- src/leaps.rt:93:9
+-- src/leaps.rt:87:5
 stamp-requires : tie.Need-stamp-requires
-stamp-requires c κs = c .before .before .before .before .before .before .before .before .before .before .before .before .before .before .before .before .before .pre .0 .few-vertices
+stamp-requires c κs = c .before .before .before .before .before .before .before .before .before .before .before .before .before .before .before .before .pre .1 .1 .0 .long-finishes
 
--- src/leaps.rt:75:1
+-- src/leaps.rt:70:1
 returns : tie.Need-returns
 unfolding leftOf
 returns c =
-    let s = c .before .before .before .before .before .before .before .before .before .before .before .before .before .before .before .before .before .before in
-    leapt (s .args .g) (s .pre .0) (s .args .w) (s .pre .1 .0) (s .pre .1 .1) (isIn (c .before .before .before .before .before .before .before .before .before .before .before .minus .result)) (isIn (c .before .before .before .before .before .before .before .before .before .before .chosen .result)) (c .before .before .before .before .before .before .before .before .before .before .before .minus .ensures .are) (c .before .before .before .before .before .before .before .before .before .before .chosen .ensures .are) (c .before .before .before .before .before .before .before .before .before .least .result) (c .before .before .before .before .before .before .before .before .before .least .ensures)
-    (c .before .before .before .before .before .before .before .before .advance .result) (c .before .before .before .before .before .before .busy2 .result) (c .before .before .before .before .before .behind2 .result) (c .before .before .minus2 .result) (c .stamp .result)
-    (c .before .before .before .before .before .before .before .before .advance .ensures) (c .before .before .before .before .before .before .busy2 .ensures .are) (c .before .before .before .before .before .behind2 .ensures .are)
-    (λ v. c .before .before .minus2 .ensures .are v ∙ ap₂ (λ (x y : Bool). x && not y) (c .before .before .before .before .either .ensures .are v) (c .before .before .before .either2 .ensures .are v))
+    let o = c .before .before .before .before .before .before .before .before .before .before .before .before .before in
+    let s = o .before .before .before .before in
+    leapt (s .args .g) (s .pre .0) (workOf (s .args .g) (s .args .m) (now (s .args .left)) (now (s .args .finishes))) (s .pre .1 .1 .0) (s .pre .1 .1 .1) (isIn (o .before .minus .result)) (isIn (o .chosen .result)) (o .before .minus .ensures .are) (now (s .args .words)) (s .pre .1 .0 .1) (on-by (o)) (c .before .before .before .before .before .before .before .before .before .before .before .least .result) (c .before .before .before .before .before .before .before .before .before .before .before .least .ensures)
+    (c .before .before .before .before .before .before .before .before .before .lower .last .0) (c .before .before .before .before .before .before .before .before .before .lower .result) (c .before .before .before .before .before .before .before .before .minus2 .result) (c .before .before .before .before .before .before .before .minus3 .result) (c .before .before .before .before .before .before .behind .result) (c .before .before .before .minus4 .result) (c .stamp .last .0)
+    (c .before .before .before .before .before .before .before .before .before .lower .ensures .0) (c .before .before .before .before .before .before .before .before .before .lower .ensures .1) (c .before .before .before .before .before .before .before .before .minus2 .ensures .are) (c .before .before .before .before .before .before .before .minus3 .ensures .are) (c .before .before .before .before .before .before .behind .ensures .are)
+    (λ v. c .before .before .before .minus4 .ensures .are v ∙ ap₂ (λ (x y : Bool). x && not y) (c .before .before .before .before .before .either .ensures .are v) (c .before .before .before .before .either2 .ensures .are v))
     (c .stamp .ensures)
 
 pub leap-spec : {M : Type 1} → statement M
@@ -94,12 +117,15 @@ leap-spec =
     minus-requires
     chosen-requires
     least-requires
-    advance-requires
-    busy-requires
+    lower-requires
+    minus-requires-2
+    minus-requires-3
     behind-requires
     either-requires
     either-requires-2
-    minus-requires-2
+    minus-requires-4
+    cast-instant
+    add-instant
     cast-stamp
     stamp-requires
     returns)

@@ -1,116 +1,109 @@
-use borrow.Author.Needs.{needs}
+use mathlib.Core.Path.{_≡_}
+use mathlib.Core.Bool.{true}
+use denote.Ref.{now}
+use Prim.Native.Nat.{_<_}
 use native.Mathlib.Omega.{arith}
-use mathlib.Core.Path.{_≡_, refl, sym, ap, _∙_}
-use mathlib.Core.Bool.{Bool, true, false}
-use mathlib.Core.Logic.{_⊎_, inl, inr, ⊎-elim}
-use Prim.Native.Nat.{ℕ, _+_, _-_, _≤_, _<_, min}
-use Rattle.model.specs.Places.{pick}
-use Rattle.model.proofs.Bools.{clash, le-or-lt}
-use Rattle.model.proofs.Places.{any-elim}
+use borrow.Author.Needs.{needs}
+use Rattle.model.specs.Places.{count}
+use Rattle.model.proofs.Places.{any-elim, first-found, first-here}
 use Rattle.vset.specs.Members.{isIn}
-use Rattle.model.proofs.Places.{first-found, first-here}
+use Rattle.vset.proofs.Taking.{lowest-in, fewer-in, emptied}
 use Rattle.tick.specs.Remains.{place}
+use Rattle.schedule.proofs.OneByOne.{Least, least-first, least-next, least-all}
 use Rattle.schedule.proofs.leaps.least.Statement.{statement}
 use Rattle.schedule.proofs.leaps.least.Tie as tie
 use Rattle.schedule.proofs.leaps.least.Reads as reads
 use Rattle.schedule.proofs.leaps.least.Lts as lts
 use Rattle.schedule.proofs.leaps.lesser.Reads as lesser-reads
+use Rattle.vset.proofs.is_empty.Reads as is-empty-reads
 use Rattle.vset.proofs.lowest.Reads as lowest-reads
-use Rattle.vset.proofs.test.Reads as test-reads
-
--- the least over the places below m
-record Lowest (f : ℕ → ℕ) (p : ℕ → Bool) (m r : ℕ) : Type 0 where
-  low : (v : ℕ) → v < m → p v ≡ true → r ≤ f v
-  who : ℕ
-  member : p who ≡ true
-  value : f who ≡ r
-
-lowest-more : (f : ℕ → ℕ) (p : ℕ → Bool) (m r : ℕ) → Lowest f p m r → Lowest f p (m + 1) (pick (p m) (min r (f m)) r)
-lowest-more f p m r h = go (p m) refl (le-or-lt r (f m))
-  where
-    upTo : (x : ℕ) → x ≤ r → (p m ≡ true → x ≤ f m) → (v : ℕ) → v < m + 1 → p v ≡ true → x ≤ f v
-    upTo x a b v l t =
-        ⊎-elim
-        (λ (k : m ≤ v). let e : v ≡ m = omega arith in omega (arith, b (ap p (sym e) ∙ t), ap f e))
-        (λ (k : v < m). omega (arith, h .low v k t))
-        (le-or-lt m v)
-
-    go : (b : Bool) → p m ≡ b → (r ≤ f m) ⊎ (f m < r) → Lowest f p (m + 1) (pick (p m) (min r (f m)) r)
-    go false e q = rw e (record { low = upTo r (omega arith) (λ t. absurd (clash t e)); who = h .who; member = h .member; value = h .value })
-    go true e (inl q) =
-        let z : min r (f m) ≡ r = omega arith in
-        rw (e, z) (record { low = upTo r (omega arith) (λ t. q); who = h .who; member = h .member; value = h .value })
-    go true e (inr q) =
-        let z : min r (f m) ≡ f m = omega arith in
-        rw (e, z) (record { low = upTo (f m) (omega arith) (λ t. omega arith); who = m; member = e; value = refl })
+use Rattle.vset.proofs.without.Reads as without-reads
 
 abbrev Inv-loop : tie.InvT-loop
-Inv-loop on left t best₀ v₀ best v = (v ≤ 128) × Lowest (place left) (isIn on) v best
+Inv-loop left v best₀ rest₀ best rest = Least (place left) v (isIn rest₀) (isIn rest) best
 
 abbrev μ-loop : tie.MeasureT-loop
-μ-loop on left t best₀ v₀ best v = 128 - v
+μ-loop left v best₀ rest₀ best rest = count (isIn rest) 128
 
--- src/leaps.rt:44:9
+-- src/leaps.rt:45:9
 lowest-requires : tie.Need-lowest-requires Inv-loop μ-loop
 lowest-requires c κs = search needs
 
--- there is a member, so the lowest is below 128
-found : (c : tie.After-lowest Inv-loop μ-loop) → c .lowest .result < 128
-found c =
-    let m = any-elim (isIn (c .before .args .on)) 128 (c .before .pre) in
-    rw (c .lowest .ensures) (first-found (isIn (c .before .args .on)) 128 (m .0) (m .1) (m .2))
+-- `on` has a member, so its lowest is one
+first-in : (c : tie.After-lowest Inv-loop μ-loop) → (c .lowest .result < 128) × (isIn (c .before .args .on) (c .lowest .result) ≡ true)
+first-in c =
+    let on = isIn (c .before .args .on) in
+    let m = any-elim on 128 (c .before .pre) in
+    let l = first-found on 128 (m .0) (m .1) (m .2) in
+    (rw (c .lowest .ensures) l, rw (c .lowest .ensures) (first-here on 128 l))
 
--- src/leaps.rt:45:20
+-- and so has the rest in a turn
+found : (c : tie.After-lowest2 Inv-loop μ-loop) → (c .lowest2 .result < 128) × (isIn (c .before .before .before .loop .rest) (c .lowest2 .result) ≡ true)
+found c = let l = c .before .before .before .loop in lowest-in (isIn (l .rest)) (c .lowest2 .result) (c .before .before .is-empty .result) (c .lowest2 .ensures) (c .before .before .is-empty .ensures) (c .before .if1 .taken)
+
+-- src/leaps.rt:46:20
 mul-best : tie.Need-mul-best Inv-loop μ-loop
-mul-best c = omega (arith, found c)
+mul-best c = omega (arith, first-in c .0)
 
--- src/leaps.rt:45:20
-array-read-best : tie.Need-array-read-best Inv-loop μ-loop
-array-read-best c = found c
+-- src/leaps.rt:46:20
+element-copy-out-best : tie.Need-element-copy-out-best Inv-loop μ-loop
+element-copy-out-best c = first-in c .0
 
--- src/leaps.rt:47:5
+-- src/leaps.rt:47:9
+without-requires : tie.Need-without-requires Inv-loop μ-loop
+without-requires c κs = first-in (c .before) .0
+
+-- src/leaps.rt:48:5
 loop-holds : tie.Need-loop-holds Inv-loop μ-loop
-loop-holds c =
-    let a = c .before .args in
-    (search needs, record { low = λ u l t. absurd (omega arith); who = c .lowest .result; member = rw (c .lowest .ensures) (first-here (isIn (a .on)) 128 (rw (← c .lowest .ensures) (found c))); value = refl })
+loop-holds c = least-first (place (now (c .before .before .before .args .left))) (c .before .before .lowest .result) (isIn (c .without .result))
 
--- src/leaps.rt:48:29
+-- src/leaps.rt:48:12
+is-empty-requires : tie.Need-is-empty-requires Inv-loop μ-loop
+is-empty-requires c κs = search needs
+
+-- src/leaps.rt:49:13
+lowest-requires-2 : tie.Need-lowest-requires-2 Inv-loop μ-loop
+lowest-requires-2 c κs = search needs
+
+-- src/leaps.rt:50:29
 mul-lesser : tie.Need-mul-lesser Inv-loop μ-loop
-mul-lesser c = search needs
+mul-lesser c = omega (arith, found c .0)
 
--- src/leaps.rt:48:29
-array-read-lesser : tie.Need-array-read-lesser Inv-loop μ-loop
-array-read-lesser c = search needs
+-- src/leaps.rt:50:29
+element-copy-out-lesser : tie.Need-element-copy-out-lesser Inv-loop μ-loop
+element-copy-out-lesser c = found c .0
 
--- src/leaps.rt:48:38
-test-requires : tie.Need-test-requires Inv-loop μ-loop
-test-requires c κs = search needs
-
--- src/leaps.rt:48:9
+-- src/leaps.rt:50:9
 lesser-requires : tie.Need-lesser-requires Inv-loop μ-loop
 lesser-requires c κs = search needs
 
--- src/leaps.rt:49:9
-add-v : tie.Need-add-v Inv-loop μ-loop
-add-v c = search needs
+-- src/leaps.rt:51:9
+without-requires-2 : tie.Need-without-requires-2 Inv-loop μ-loop
+without-requires-2 c κs = found (c .before .before) .0
 
--- src/leaps.rt:47:5
+-- src/leaps.rt:48:5
 loop-less : tie.Need-loop-less Inv-loop μ-loop
-loop-less c = search needs
+loop-less c =
+    let l = c .before .before .before .before .before .before .loop in
+    let h = found (c .before .before .before) in
+    fewer-in (isIn (l .rest)) (isIn (c .without2 .result)) (c .before .before .before .lowest2 .result) (c .without2 .ensures .are) (h .1) (h .0)
 
--- src/leaps.rt:47:5
+-- src/leaps.rt:48:5
 loop-again : tie.Need-loop-again Inv-loop μ-loop
 loop-again c =
-    let a = c .before .before .before .before .before .args in
-    let l = c .before .before .before .loop in
-    (search needs, rw (c .lesser .ensures, c .before .test .ensures) (lowest-more (place (a .t1)) (isIn (a .on)) (l .v) (l .best) (l .inv .1)))
+    let l = c .before .before .before .before .before .before .loop in
+    let o = c .before .before .before .before .before .before .before in
+    let h = found (c .before .before .before) in
+    rw (c .before .lesser .ensures) (least-next (place (now (o .before .before .before .args .left))) (o .before .before .lowest .result) (isIn (o .without .result)) (isIn (l .rest)) (l .best) (c .before .before .before .lowest2 .result) (l .inv) (h .1) (isIn (c .without2 .result)) (c .without2 .ensures .are))
 
--- src/leaps.rt:40:1
+-- src/leaps.rt:41:1
 returns : tie.Need-returns Inv-loop μ-loop
 returns c =
-    let l = c .before .loop in
-    let m = l .inv .1 in
-    record { low = λ v h t. m .low v (omega arith) t; who = m .who; member = m .member; value = m .value }
+    let l = c .before .before .loop in
+    let o = c .before .before .before in
+    let e = o .without .ensures in
+    least-all (place (now (o .before .before .before .args .left))) (o .before .before .lowest .result) (isIn (o .without .result)) (isIn (o .before .before .before .args .on)) (isIn (l .rest)) (l .best) (l .inv) (first-in (o .before .before) .1) (e .are)
+    (emptied (o .without .result) (isIn (l .rest)) (e .low) (e .high) (l .inv .inside) (c .before .is-empty .result) (c .before .is-empty .ensures) (c .if1 .left))
 
 pub least-spec : {M : Type 1} → statement M
 least-spec =
@@ -120,13 +113,15 @@ least-spec =
     μ-loop
     lowest-requires
     mul-best
-    array-read-best
+    element-copy-out-best
+    without-requires
     loop-holds
+    is-empty-requires
+    lowest-requires-2
     mul-lesser
-    array-read-lesser
-    test-requires
+    element-copy-out-lesser
     lesser-requires
-    add-v
+    without-requires-2
     loop-less
     loop-again
     returns)

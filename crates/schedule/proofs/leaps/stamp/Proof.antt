@@ -1,71 +1,76 @@
-use borrow.Author.Needs.{needs}
-use native.Mathlib.Omega.{arith}
 use mathlib.Core.Path.{_≡_}
-use Prim.Native.Nat.{_-_, _≤_}
-use Rattle.model.specs.Places.{padded}
-use Rattle.model.proofs.Tables.{padded-none, padded-more}
+use mathlib.Core.Bool.{true}
+use denote.Ref.{now}
+use Prim.Native.Nat.{_<_}
+use native.Mathlib.Omega.{arith}
+use borrow.Author.Needs.{needs}
+use Rattle.model.specs.Places.{count}
 use Rattle.vset.specs.Members.{isIn}
-use Rattle.schedule.specs.Leaps.{stamped}
+use Rattle.vset.proofs.Taking.{lowest-in, fewer-in, emptied}
+use Rattle.schedule.proofs.OneByOne.{Stamping, stamping-none, stamping-more, stamping-all}
 use Rattle.schedule.proofs.leaps.stamp.Statement.{statement}
 use Rattle.schedule.proofs.leaps.stamp.Tie as tie
 use Rattle.schedule.proofs.leaps.stamp.Reads as reads
 use Rattle.schedule.proofs.leaps.stamp.Lts as lts
-use Rattle.schedule.proofs.leaps.either_of.Reads as either-of-reads
-use Rattle.vset.proofs.test.Reads as test-reads
+use Rattle.vset.proofs.is_empty.Reads as is-empty-reads
+use Rattle.vset.proofs.lowest.Reads as lowest-reads
+use Rattle.vset.proofs.without.Reads as without-reads
 
 abbrev Inv-loop : tie.InvT-loop
-Inv-loop n new instant finishes out₀ v₀ out v = (v ≤ n) × (out ≡ padded 128 (stamped finishes (isIn new) instant) v)
+Inv-loop finishes₀ instant rest₀ finishes rest = Stamping finishes₀ (isIn rest₀) instant finishes (isIn rest)
 
 abbrev μ-loop : tie.MeasureT-loop
-μ-loop n new instant finishes out₀ v₀ out v = n - v
+μ-loop finishes₀ instant rest₀ finishes rest = count (isIn rest) 128
 
--- src/leaps.rt:67:5
+-- src/leaps.rt:62:5
 loop-holds : tie.Need-loop-holds Inv-loop μ-loop
-loop-holds c = (search needs, padded-none 128 _)
+loop-holds c = stamping-none (now (c .args .finishes)) (isIn (c .args .new)) (c .args .instant) (c .pre)
 
--- src/leaps.rt:68:28
-test-requires : tie.Need-test-requires Inv-loop μ-loop
-test-requires c κs = search needs
+-- src/leaps.rt:62:12
+is-empty-requires : tie.Need-is-empty-requires Inv-loop μ-loop
+is-empty-requires c κs = search needs
 
--- src/leaps.rt:68:57
-mul-either-of : tie.Need-mul-either-of Inv-loop μ-loop
-mul-either-of c = search needs
+-- src/leaps.rt:63:13
+lowest-requires : tie.Need-lowest-requires Inv-loop μ-loop
+lowest-requires c κs = search needs
 
--- src/leaps.rt:68:57
-array-read-either-of : tie.Need-array-read-either-of Inv-loop μ-loop
-array-read-either-of c = search needs
+-- there is a member left, so the lowest is one
+found : (c : tie.After-lowest Inv-loop μ-loop) → (c .lowest .result < 128) × (isIn (c .before .before .before .loop .rest) (c .lowest .result) ≡ true)
+found c = let l = c .before .before .before .loop in lowest-in (isIn (l .rest)) (c .lowest .result) (c .before .before .is-empty .result) (c .lowest .ensures) (c .before .before .is-empty .ensures) (c .before .if1 .taken)
 
--- src/leaps.rt:68:18
-either-of-requires : tie.Need-either-of-requires Inv-loop μ-loop
-either-of-requires c κs = search needs
+-- src/leaps.rt:64:9
+mul-finishes : tie.Need-mul-finishes Inv-loop μ-loop
+mul-finishes c = omega (arith, found c .0)
 
--- src/leaps.rt:68:9
-mul-out : tie.Need-mul-out Inv-loop μ-loop
-mul-out c = search needs
+-- src/leaps.rt:64:9
+element-write-finishes : tie.Need-element-write-finishes Inv-loop μ-loop
+element-write-finishes c = found c .0
 
--- src/leaps.rt:68:9
-array-write-out : tie.Need-array-write-out Inv-loop μ-loop
-array-write-out c = search needs
+-- src/leaps.rt:65:9
+without-requires : tie.Need-without-requires Inv-loop μ-loop
+without-requires c κs = found c .0
 
--- src/leaps.rt:69:9
-add-v : tie.Need-add-v Inv-loop μ-loop
-add-v c = search needs
-
--- src/leaps.rt:67:5
+-- src/leaps.rt:62:5
 loop-less : tie.Need-loop-less Inv-loop μ-loop
-loop-less c = search needs
+loop-less c =
+    let l = c .before .before .before .before .loop in
+    let h = found (c .before) in
+    fewer-in (isIn (l .rest)) (isIn (c .without .result)) (c .before .lowest .result) (c .without .ensures .are) (h .1) (h .0)
 
--- src/leaps.rt:67:5
+-- src/leaps.rt:62:5
 loop-again : tie.Need-loop-again Inv-loop μ-loop
-unfolding stamped
 loop-again c =
-    let a = c .before .before .before .before .args in
-    let l = c .before .before .before .loop in
-    (search needs, rw (c .either-of .ensures, c .before .test .ensures, l .inv .1) (padded-more 128 (stamped (a .t1) (isIn (a .new)) (a .instant)) (l .v) (omega arith)))
+    let l = c .before .before .before .before .loop in
+    let a = c .before .before .before .before .before .args in
+    let h = found (c .before) in
+    stamping-more (now (a .finishes)) (isIn (a .new)) (a .instant) (l .finishes) (isIn (l .rest)) (c .before .lowest .result) (l .inv) (h .0) (h .1) (isIn (c .without .result)) (c .without .ensures .are)
 
--- src/leaps.rt:61:1
+-- src/leaps.rt:57:1
 returns : tie.Need-returns Inv-loop μ-loop
-returns c = let l = c .before .loop in let e : l .v ≡ c .before .before .args .n = omega arith in rw (← e) (l .inv .1)
+returns c =
+    let l = c .before .before .loop in
+    let a = c .before .before .before .args in
+    stamping-all (now (a .finishes)) (isIn (a .new)) (a .instant) (l .finishes) (isIn (l .rest)) (l .inv) (emptied (a .new) (isIn (l .rest)) (omega arith) (omega arith) (l .inv .inside) (c .before .is-empty .result) (c .before .is-empty .ensures) (c .if1 .left))
 
 pub stamp-spec : {M : Type 1} → statement M
 stamp-spec =
@@ -74,13 +79,11 @@ stamp-spec =
     Inv-loop
     μ-loop
     loop-holds
-    test-requires
-    mul-either-of
-    array-read-either-of
-    either-of-requires
-    mul-out
-    array-write-out
-    add-v
+    is-empty-requires
+    lowest-requires
+    mul-finishes
+    element-write-finishes
+    without-requires
     loop-less
     loop-again
     returns)

@@ -9,6 +9,7 @@ use Rattle.vset.specs.Members.{isIn}
 use Rattle.tick.specs.declared.Ticked.{Ticked}
 use Rattle.tick.specs.declared.Report.the-variants.{Moved}
 use Rattle.tick.specs.Run.{leftOf, stateOf, recordOf, over, tickedOf}
+use Rattle.tick.proofs.ByKind.{kinds-known, few-go-on}
 use Rattle.tick.proofs.Suiting.{passed, suits-sound, nothing-left}
 use Rattle.tick.proofs.Ticking.{over-is, on-is, on-runs}
 use Rattle.tick.proofs.Records.{after-leap}
@@ -19,6 +20,7 @@ use Rattle.tick.proofs.Run.tick.Reads as reads
 use Rattle.tick.proofs.Run.tick.Lts as lts
 use Rattle.tick.proofs.Run.advance.Reads as advance-reads
 use Rattle.tick.proofs.choice.chosen.Reads as chosen-reads
+use Rattle.tick.proofs.choice.of_kinds.Reads as of-kinds-reads
 use Rattle.tick.proofs.ready.behind.Reads as behind-reads
 use Rattle.tick.proofs.ready.busy.Reads as busy-reads
 use Rattle.vset.proofs.is_empty.Reads as is-empty-reads
@@ -34,21 +36,23 @@ over-by c =
     let s = c .before .before .before .before in
     over-is (s .args .g) (s .pre .0) (s .args .self) (past-by s) (isIn (c .before .busy .result)) (c .before .busy .ensures .are) ∙ sym (c .is-empty .ensures)
 
-on-by : (c : tie.After-chosen) (v : ℕ) → isIn (c .chosen .result) v ≡ chosen (asModel (c .before .before .before .before .before .before .before .before .args .g)) (stateOf (c .before .before .before .before .before .before .before .before .args .self)) v
+on-by : (c : tie.After-chosen) (v : ℕ) → isIn (c .chosen .result) v ≡ chosen (asModel (c .before .before .before .before .before .before .before .before .before .before .before .before .before .before .args .g)) (stateOf (c .before .before .before .before .before .before .before .before .before .before .before .before .before .before .args .self)) v
 on-by c =
-    let s = c .before .before .before .before .before .before .before .before in
-    let b = c .before .before .before .before .before .busy in
-    let h = c .before .before .behind in
-    let a = c .before .minus in
-    on-is (s .args .g) (s .pre .0) (s .args .self) (past-by s) (isIn (b .result)) (b .ensures .are) (isIn (h .result)) (h .ensures .are) (isIn (a .result)) (a .ensures .are) (isIn (c .chosen .result)) (c .chosen .ensures .are)
+    let s = c .before .before .before .before .before .before .before .before .before .before .before .before .before .before in
+    let b = c .before .before .before .before .before .before .before .before .before .before .before .busy in
+    let h = c .before .before .before .before .before .before .before .before .behind in
+    let a = c .before .before .before .before .before .before .before .minus in
+    let w = c .before .before .before .of-kinds in
+    on-is (s .args .g) (s .pre .0) (s .args .self) (past-by s) (isIn (b .result)) (b .ensures .are) (isIn (h .result)) (h .ensures .are) (isIn (a .result)) (a .ensures .are) (w .result) (w .ensures) (isIn (c .chosen .result)) (c .chosen .ensures .are)
 
-runs-by : (c : tie.After-chosen) (v : ℕ) → isIn (c .chosen .result) v ≡ true → (v < c .before .before .before .before .before .before .before .before .args .g .n) × (1 ≤ leftOf (c .before .before .before .before .before .before .before .before .args .self) v)
+runs-by : (c : tie.After-chosen) (v : ℕ) → isIn (c .chosen .result) v ≡ true → (v < c .before .before .before .before .before .before .before .before .before .before .before .before .before .before .args .g .n) × (1 ≤ leftOf (c .before .before .before .before .before .before .before .before .before .before .before .before .before .before .args .self) v)
 runs-by c =
-    let s = c .before .before .before .before .before .before .before .before in
-    let b = c .before .before .before .before .before .busy in
-    let h = c .before .before .behind in
-    let a = c .before .minus in
-    on-runs (s .args .g) (s .pre .0) (s .args .self) (past-by s) (isIn (b .result)) (b .ensures .are) (isIn (h .result)) (h .ensures .are) (isIn (a .result)) (a .ensures .are) (isIn (c .chosen .result)) (c .chosen .ensures .are)
+    let s = c .before .before .before .before .before .before .before .before .before .before .before .before .before .before in
+    let b = c .before .before .before .before .before .before .before .before .before .before .before .busy in
+    let h = c .before .before .before .before .before .before .before .before .behind in
+    let a = c .before .before .before .before .before .before .before .minus in
+    let w = c .before .before .before .of-kinds in
+    on-runs (s .args .g) (s .pre .0) (s .args .self) (past-by s) (isIn (b .result)) (b .ensures .are) (isIn (h .result)) (h .ensures .are) (isIn (a .result)) (a .ensures .are) (w .result) (w .ensures) (isIn (c .chosen .result)) (c .chosen .ensures .are)
 
 -- src/lib.rt:63:13
 busy-requires : tie.Need-busy-requires
@@ -63,32 +67,38 @@ returns : tie.Need-returns
 unfolding tickedOf
 returns c = rw (over-by (c .before) ∙ c .if1 .taken) refl
 
--- src/lib.rt:67:38
+-- src/lib.rt:70:38
 behind-requires : tie.Need-behind-requires
 behind-requires c κs = search needs
 
--- src/lib.rt:67:13
+-- src/lib.rt:70:13
 minus-requires : tie.Need-minus-requires
 minus-requires c κs = search needs
 
--- src/lib.rt:68:13
-chosen-requires : tie.Need-chosen-requires
-chosen-requires c κs = let s = c .before .before .before .before .before .before .before in (s .pre .0, passed (s .args .g) (s .args .self) (s .pre .1) .fair)
+-- src/lib.rt:73:21
+of-kinds-requires : tie.Need-of-kinds-requires
+of-kinds-requires c κs = let s = c .before .before .before .before .before .before .before .before .before .before in (s .pre .0 .few-vertices, kinds-known (s .args .g) (s .pre .0))
 
--- src/lib.rt:69:9
+-- src/lib.rt:74:13
+chosen-requires : tie.Need-chosen-requires
+chosen-requires c κs =
+    let s = c .before .before .before .before .before .before .before .before .before .before .before .before .before in
+    (s .pre .0 .few-kinds, few-go-on (s .args .g) (s .pre .0) (c .before .before .of-kinds .result) (c .before .before .of-kinds .ensures) (isIn (c .before .before .before .before .before .before .minus .result)) (isIn (s .args .self .ran)) (passed (s .args .g) (s .args .self) (s .pre .1) .fair))
+
+-- src/lib.rt:75:9
 advance-requires : tie.Need-advance-requires
 unfolding leftOf
 advance-requires c κs =
-    let s = c .before .before .before .before .before .before .before .before in
+    let s = c .before .before .before .before .before .before .before .before .before .before .before .before .before .before in
     let S = suits-sound (s .args .g) (s .args .self) (s .pre .0) (s .pre .1) in
-    (omega (arith, S .agrees, s .pre .0 .few-vertices), (omega (arith, S .in-time), λ v t. rw (S .agrees) (runs-by c v t)))
+    (omega (arith, S .agrees, s .pre .0 .few-vertices), (omega (arith, S .in-time), ((λ v t. rw (S .agrees) (runs-by c v t)), (λ v l. past-by s v (rw (← S .agrees) l)))))
 
 -- src/lib.rt:56:5
 returns-2 : tie.Need-returns-2
 unfolding tickedOf
 returns-2 c =
-    let s = c .before .before .before .before .before .before .before .before .before in
-    rw (over-by (c .before .before .before .before .before) ∙ c .before .before .before .before .if1 .left, c .advance .ensures)
+    let s = c .before .before .before .before .before .before .before .before .before .before .before .before .before .before .before in
+    rw (over-by (c .before .before .before .before .before .before .before .before .before .before .before) ∙ c .before .before .before .before .before .before .before .before .before .before .if1 .left, c .advance .ensures)
     (ap {B = Ticked} (λ (x : State). record { report = Moved; run = recordOf (s .args .self .n) (s .args .self .instant + 1) x })
     (after-leap (asModel (s .args .g)) 1 (stateOf (s .args .self)) (isIn (c .before .chosen .result)) (on-by (c .before))))
 
@@ -101,6 +111,7 @@ tick-spec =
     returns
     behind-requires
     minus-requires
+    of-kinds-requires
     chosen-requires
     advance-requires
     returns-2)

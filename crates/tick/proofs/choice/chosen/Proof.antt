@@ -1,72 +1,103 @@
-use borrow.Author.Needs.{needs}
+use mathlib.Core.Path.{_≡_, refl, sym, ap, ap₂, _∙_, fun-ext}
+use mathlib.Core.Bool.{Bool, false, not, _&&_, _||_, or-assoc, or-false}
+use denote.Ref.{now}
+use Prim.Native.Nat.{ℕ, _+_, _-_, _≤_, _<_}
 use native.Mathlib.Omega.{arith}
-use mathlib.Core.Path.{_≡_, sym, ap, ap₂, _∙_}
-use mathlib.Core.Bool.{Bool, _&&_, _||_}
-use Prim.Native.Nat.{ℕ, _+_, _-_, _≤_, zero-le}
-use lib.Dec.{ltb}
+use borrow.Author.Needs.{needs}
 use lib.ListN.{getD}
-use borrow.Author.Tests.{le-ltb}
+use Rattle.model.specs.Places.{any}
+use Rattle.model.proofs.Places.{any-more}
+use Rattle.vset.specs.declared.Vset.{Vset}
 use Rattle.vset.specs.Members.{isIn, Members}
 use Rattle.vset.proofs.Gather.{members-ext}
-use Rattle.tick.specs.Choice.{choice}
-use Rattle.tick.proofs.ByKind.{next-kind, all-kinds}
+use Rattle.vset.proofs.Words.{itself}
+use Rattle.tick.specs.Choice.{setAt, goOn, starts, chosenBy}
 use Rattle.tick.proofs.choice.chosen.Statement.{statement}
 use Rattle.tick.proofs.choice.chosen.Tie as tie
 use Rattle.tick.proofs.choice.chosen.Reads as reads
 use Rattle.tick.proofs.choice.chosen.Lts as lts
-use Rattle.tick.proofs.choice.chosen_of_kind.Reads as chosen-of-kind-reads
+use Rattle.tick.proofs.choice.set_at.Reads as set-at-reads
+use Rattle.tick.proofs.choice.started.Reads as started-reads
+use Rattle.vset.proofs.both.Reads as both-reads
 use Rattle.vset.proofs.either.Reads as either-reads
-use Rattle.vset.proofs.none.Reads as none-reads
+use Rattle.vset.proofs.minus.Reads as minus-reads
 
 abbrev Inv-loop : tie.InvT-loop
-Inv-loop g able ran got₀ k₀ got k = (k ≤ g .kinds) × Members got (λ v. ltb (getD (g .kind) v 0) k && choice g (isIn able) (isIn ran) v)
+Inv-loop kinds cores words stay free got₀ k₀ got k = (k ≤ kinds) × Members got (λ v. isIn stay v || any (λ j. starts (isIn stay) (isIn free) (isIn (setAt words j)) (getD cores j 0) v) k)
 
 abbrev μ-loop : tie.MeasureT-loop
-μ-loop g able ran got₀ k₀ got k = g .kinds - k
+μ-loop kinds cores words stay free got₀ k₀ got k = kinds - k
 
--- src/choice.rt:58:9
-none-requires : tie.Need-none-requires Inv-loop μ-loop
-none-requires c κs = search needs
+-- src/choice.rt:72:9
+both-requires : tie.Need-both-requires Inv-loop μ-loop
+both-requires c κs = search needs
 
--- src/choice.rt:60:5
+-- src/choice.rt:73:9
+minus-requires : tie.Need-minus-requires Inv-loop μ-loop
+minus-requires c κs = search needs
+
+-- src/choice.rt:76:5
 loop-holds : tie.Need-loop-holds Inv-loop μ-loop
+unfolding any
 loop-holds c =
-    let a = c .before .args in
-    (search needs, members-ext (c .none .result) _ (λ v. ltb (getD (a .g .kind) v 0) 0 && choice (a .g) (isIn (a .able)) (isIn (a .ran)) v) (c .none .ensures) (λ v. sym (ap (λ (b : Bool). b && choice (a .g) (isIn (a .able)) (isIn (a .ran)) v) (le-ltb (getD (a .g .kind) v 0) 0 zero-le))))
+    let s = c .before .both in
+    (search needs, members-ext (s .result) _ (λ v. isIn (s .result) v || false) (itself (s .result) (s .ensures .low) (s .ensures .high) (isIn (s .result)) (λ v. refl)) (λ v. sym (or-false (isIn (s .result) v))))
 
--- src/choice.rt:61:33
-chosen-of-kind-requires : tie.Need-chosen-of-kind-requires Inv-loop μ-loop
-chosen-of-kind-requires c κs = (c .before .before .before .before .pre .0, (c .before .before .before .before .pre .1, omega arith))
+-- src/choice.rt:77:53
+set-at-requires : tie.Need-set-at-requires Inv-loop μ-loop
+set-at-requires c κs = search needs
 
--- src/choice.rt:61:9
+-- src/choice.rt:77:71
+element-copy-out-started : tie.Need-element-copy-out-started Inv-loop μ-loop
+element-copy-out-started c = search needs
+
+-- src/choice.rt:77:33
+started-requires : tie.Need-started-requires Inv-loop μ-loop
+unfolding goOn
+started-requires c κs =
+    let s = c .before .before .before .before .before .before in
+    let l = c .before .before .before .loop in
+    rw (c .before .set-at .ensures, fun-ext (c .before .before .before .before .before .both .ensures .are)) (s .pre .1 (l .k) (c .before .before .loop-test .taken))
+
+-- src/choice.rt:77:9
 either-requires : tie.Need-either-requires Inv-loop μ-loop
 either-requires c κs = search needs
 
--- src/choice.rt:62:9
+-- src/choice.rt:78:9
 add-k : tie.Need-add-k Inv-loop μ-loop
-add-k c = omega (arith, c .before .before .before .before .before .before .pre .0 .few-kinds)
+add-k c = search needs
 
--- src/choice.rt:60:5
+-- src/choice.rt:76:5
 loop-less : tie.Need-loop-less Inv-loop μ-loop
 loop-less c = search needs
 
--- src/choice.rt:60:5
+-- src/choice.rt:76:5
 loop-again : tie.Need-loop-again Inv-loop μ-loop
 loop-again c =
-    let a = c .before .before .before .before .before .before .args in
-    let l = c .before .before .before .before .loop in
-    let p : ℕ → Bool = choice (a .g) (isIn (a .able)) (isIn (a .ran)) in
-    (omega arith, members-ext (c .either .result) _ (λ v. ltb (getD (a .g .kind) v 0) (l .k + 1) && p v) (c .either .ensures) (λ v. ap₂ _||_ (l .inv .1 .are v) (c .before .chosen-of-kind .ensures .are v) ∙ next-kind (a .g) (isIn (a .able)) (isIn (a .ran)) (l .k) v))
+    let l = c .before .before .before .before .before .loop in
+    let s = c .before .before .before .before .before .before .before .before in
+    let t = c .before .started in
+    let stay = c .before .before .before .before .before .before .before .both .result in
+    let free = c .before .before .before .before .before .before .minus .result in
+    let p : ℕ → ℕ → Bool = λ v j. starts (isIn stay) (isIn free) (isIn (setAt (now (s .args .words)) j)) (getD (now (s .args .cores)) j 0) v in (
+      search needs,
+      members-ext (c .either .result) _ (λ v. isIn stay v || any (p v) (l .k + 1)) (c .either .ensures) (λ v.
+          ap₂ _||_ (l .inv .1 .are v) (t .ensures .are v ∙ ap (λ (m : Vset). starts (isIn stay) (isIn free) (isIn m) (getD (now (s .args .cores)) (l .k) 0) v) (c .before .before .before .set-at .ensures))
+          ∙ or-assoc (isIn stay v) (any (p v) (l .k)) (p v (l .k)) ∙ ap (λ (b : Bool). isIn stay v || b) (sym (any-more (p v) (l .k)))),
+    )
 
--- src/choice.rt:53:1
+-- src/choice.rt:67:1
 returns : tie.Need-returns Inv-loop μ-loop
+unfolding chosenBy
 returns c =
-    let a = c .before .before .before .before .args in
-    let l = c .before .before .loop in
-    let p : ℕ → Bool = choice (a .g) (isIn (a .able)) (isIn (a .ran)) in
-    let e : l .k ≡ a .g .kinds = omega arith in
-    members-ext (l .got) (λ v. ltb (getD (a .g .kind) v 0) (l .k) && p v) p (l .inv .1)
-    (λ v. ap (λ (x : ℕ). ltb (getD (a .g .kind) v 0) x && p v) e ∙ all-kinds (a .g) (isIn (a .able)) (isIn (a .ran)) (c .before .before .before .before .pre .0) v)
+    let l = c .before .loop in
+    let s = c .before .before .before .before in
+    let e : l .k ≡ s .args .kinds = omega arith in
+    let words = now (s .args .words) in
+    let cores = now (s .args .cores) in
+    members-ext (l .got) _ (chosenBy (s .args .kinds) cores words (isIn (s .args .able)) (isIn (s .args .ran))) (l .inv .1) (λ v.
+    ap (λ (k : ℕ). isIn (c .before .before .before .both .result) v || any (λ j. starts (isIn (c .before .before .before .both .result)) (isIn (c .before .before .minus .result)) (isIn (setAt words j)) (getD cores j 0) v) k) e
+    ∙ ap₂ (λ (stay free : ℕ → Bool). stay v || any (λ j. starts stay free (isIn (setAt words j)) (getD cores j 0) v) (s .args .kinds)) (fun-ext (c .before .before .before .both .ensures .are)) (fun-ext (c .before .before .minus .ensures .are)))
 
 pub chosen-spec : {M : Type 1} → statement M
 chosen-spec =
@@ -74,9 +105,12 @@ chosen-spec =
     (tie.spec
     Inv-loop
     μ-loop
-    none-requires
+    both-requires
+    minus-requires
     loop-holds
-    chosen-of-kind-requires
+    set-at-requires
+    element-copy-out-started
+    started-requires
     either-requires
     add-k
     loop-less

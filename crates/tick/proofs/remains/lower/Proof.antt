@@ -1,83 +1,103 @@
-use borrow.Author.Needs.{needs}
+use mathlib.Core.Path.{_≡_}
+use mathlib.Core.Bool.{true}
+use denote.Ref.{now}
+use Prim.Native.Nat.{_<_}
 use native.Mathlib.Omega.{arith}
-use mathlib.Core.Path.{_≡_, refl}
-use mathlib.Core.Bool.{Bool, true, false}
-use Prim.Native.Nat.{ℕ, _-_, _≤_, zero-le}
-use lib.ListN.{getD}
-use Rattle.model.specs.Places.{pick, padded}
-use Rattle.model.proofs.Tables.{padded-none, padded-more}
+use borrow.Author.Needs.{needs}
+use Rattle.model.specs.Places.{count}
 use Rattle.vset.specs.Members.{isIn}
-use Rattle.tick.specs.Remains.{lowered}
+use Rattle.vset.proofs.Taking.{lowest-in, fewer-in, emptied}
+use Rattle.tick.proofs.Lowering.{Lowering, lowering-none, lowering-more, lowering-all, untouched}
 use Rattle.tick.proofs.remains.lower.Statement.{statement}
 use Rattle.tick.proofs.remains.lower.Tie as tie
 use Rattle.tick.proofs.remains.lower.Reads as reads
 use Rattle.tick.proofs.remains.lower.Lts as lts
-use Rattle.tick.proofs.remains.spent.Reads as spent-reads
-use Rattle.vset.proofs.test.Reads as test-reads
-
-spent-le : (b : Bool) (d x : ℕ) → (b ≡ true → d ≤ x) → pick b d 0 ≤ x
-spent-le true d x h = h refl
-spent-le false d x h = zero-le
+use Rattle.vset.proofs.is_empty.Reads as is-empty-reads
+use Rattle.vset.proofs.lowest.Reads as lowest-reads
+use Rattle.vset.proofs.none.Reads as none-reads
+use Rattle.vset.proofs.with_if.Reads as with-if-reads
+use Rattle.vset.proofs.without.Reads as without-reads
 
 abbrev Inv-loop : tie.InvT-loop
-Inv-loop n on d left out₀ v₀ out v = (v ≤ n) × (out ≡ padded 128 (lowered left (isIn on) d) v)
+Inv-loop left₀ d still₀ rest₀ left still rest = Lowering left₀ (isIn rest₀) d left still (isIn rest)
 
 abbrev μ-loop : tie.MeasureT-loop
-μ-loop n on d left out₀ v₀ out v = n - v
+μ-loop left₀ d still₀ rest₀ left still rest = count (isIn rest) 128
 
--- src/remains.rt:30:5
+-- src/remains.rt:23:9
+none-requires : tie.Need-none-requires Inv-loop μ-loop
+none-requires c κs = search needs
+
+-- src/remains.rt:25:5
 loop-holds : tie.Need-loop-holds Inv-loop μ-loop
-loop-holds c = (search needs, padded-none 128 _)
+loop-holds c = let s = c .before in lowering-none (now (s .args .left)) (isIn (s .args .on)) (s .args .d) (s .pre .0) (c .none .result) (c .none .ensures)
 
--- src/remains.rt:31:18
-mul-out : tie.Need-mul-out Inv-loop μ-loop
-mul-out c = search needs
+-- src/remains.rt:25:12
+is-empty-requires : tie.Need-is-empty-requires Inv-loop μ-loop
+is-empty-requires c κs = search needs
 
--- src/remains.rt:31:18
-array-read-out : tie.Need-array-read-out Inv-loop μ-loop
-array-read-out c = search needs
+-- src/remains.rt:26:13
+lowest-requires : tie.Need-lowest-requires Inv-loop μ-loop
+lowest-requires c κs = search needs
 
--- src/remains.rt:31:34
-test-requires : tie.Need-test-requires Inv-loop μ-loop
-test-requires c κs = search needs
+-- there is a member left, so the lowest is one
+found : (c : tie.After-lowest Inv-loop μ-loop) → (c .lowest .result < 128) × (isIn (c .before .before .before .loop .rest) (c .lowest .result) ≡ true)
+found c = let l = c .before .before .before .loop in lowest-in (isIn (l .rest)) (c .lowest .result) (c .before .before .is-empty .result) (c .lowest .ensures) (c .before .before .is-empty .ensures) (c .before .if1 .taken)
 
--- src/remains.rt:31:28
-spent-requires : tie.Need-spent-requires Inv-loop μ-loop
-spent-requires c κs = search needs
+-- src/remains.rt:27:20
+mul-more : tie.Need-mul-more Inv-loop μ-loop
+mul-more c = omega (arith, found c .0)
 
--- src/remains.rt:31:18
-sub-out : tie.Need-sub-out Inv-loop μ-loop
-sub-out c =
-    let a = c .before .before .before .before .args in
-    let l = c .before .before .before .loop in
-    rw (c .spent .ensures, c .before .test .ensures) (spent-le (isIn (a .on) (l .v)) (a .d) (getD (a .t1) (l .v) 0) (c .before .before .before .before .pre .1 (l .v)))
+-- src/remains.rt:27:20
+element-copy-out-more : tie.Need-element-copy-out-more Inv-loop μ-loop
+element-copy-out-more c = found c .0
 
--- src/remains.rt:31:9
-mul-out-2 : tie.Need-mul-out-2 Inv-loop μ-loop
-mul-out-2 c = search needs
+-- src/remains.rt:27:20
+sub-more : tie.Need-sub-more Inv-loop μ-loop
+sub-more c =
+    let l = c .before .before .before .before .loop in
+    let s = c .before .before .before .before .before .before in
+    let v = c .before .lowest .result in
+    let h = found (c .before) .1 in
+    rw (untouched (now (s .args .left)) (isIn (s .args .on)) (s .args .d) (l .left) (l .still) (isIn (l .rest)) (l .inv) v h) (s .pre .1 v (l .inv .inside v h))
 
--- src/remains.rt:31:9
-array-write-out : tie.Need-array-write-out Inv-loop μ-loop
-array-write-out c = search needs
+-- src/remains.rt:28:9
+mul-left : tie.Need-mul-left Inv-loop μ-loop
+mul-left c = omega (arith, found (c .before) .0)
 
--- src/remains.rt:32:9
-add-v : tie.Need-add-v Inv-loop μ-loop
-add-v c = search needs
+-- src/remains.rt:28:9
+element-write-left : tie.Need-element-write-left Inv-loop μ-loop
+element-write-left c = found (c .before) .0
 
--- src/remains.rt:30:5
+-- src/remains.rt:29:9
+with-if-requires : tie.Need-with-if-requires Inv-loop μ-loop
+with-if-requires c κs = found (c .before) .0
+
+-- src/remains.rt:30:9
+without-requires : tie.Need-without-requires Inv-loop μ-loop
+without-requires c κs = found (c .before .before) .0
+
+-- src/remains.rt:25:5
 loop-less : tie.Need-loop-less Inv-loop μ-loop
-loop-less c = search needs
+loop-less c =
+    let l = c .before .before .before .before .before .before .loop in
+    let h = found (c .before .before .before) in
+    fewer-in (isIn (l .rest)) (isIn (c .without .result)) (c .before .before .before .lowest .result) (c .without .ensures .are) (h .1) (h .0)
 
--- src/remains.rt:30:5
+-- src/remains.rt:25:5
 loop-again : tie.Need-loop-again Inv-loop μ-loop
-unfolding lowered
 loop-again c =
-    let l = c .before .before .before .loop in
-    (search needs, rw (c .spent .ensures, c .before .test .ensures, l .inv .1) (padded-more 128 (lowered (c .before .before .before .before .args .t1) (isIn (c .before .before .before .before .args .on)) (c .before .before .before .before .args .d)) (l .v) (omega arith)))
+    let l = c .before .before .before .before .before .before .loop in
+    let s = c .before .before .before .before .before .before .before .before in
+    let h = found (c .before .before .before) in
+    lowering-more (now (s .args .left)) (isIn (s .args .on)) (s .args .d) (l .left) (l .still) (isIn (l .rest)) (l .inv) (c .before .before .before .lowest .result) (h .0) (h .1) (isIn (c .without .result)) (c .without .ensures .are) (c .before .with-if .result) (c .before .with-if .ensures)
 
--- src/remains.rt:23:1
+-- src/remains.rt:18:1
 returns : tie.Need-returns Inv-loop μ-loop
-returns c = let l = c .before .loop in let e : l .v ≡ c .before .before .args .n = omega arith in rw (← e) (l .inv .1)
+returns c =
+    let l = c .before .before .loop in
+    let s = c .before .before .before .before in
+    lowering-all (now (s .args .left)) (isIn (s .args .on)) (s .args .d) (l .left) (l .still) (isIn (l .rest)) (l .inv) (emptied (s .args .on) (isIn (l .rest)) (omega arith) (omega arith) (l .inv .inside) (c .before .is-empty .result) (c .before .is-empty .ensures) (c .if1 .left))
 
 pub lower-spec : {M : Type 1} → statement M
 lower-spec =
@@ -85,15 +105,17 @@ lower-spec =
     (tie.spec
     Inv-loop
     μ-loop
+    none-requires
     loop-holds
-    mul-out
-    array-read-out
-    test-requires
-    spent-requires
-    sub-out
-    mul-out-2
-    array-write-out
-    add-v
+    is-empty-requires
+    lowest-requires
+    mul-more
+    element-copy-out-more
+    sub-more
+    mul-left
+    element-write-left
+    with-if-requires
+    without-requires
     loop-less
     loop-again
     returns)
