@@ -17,7 +17,7 @@ use Rattle.graph.specs.Rules.{holds, perRecord, places, rule4, rule6, ru
 use Rattle.graph.specs.Judge.{placeOf}
 use Rattle.graph.specs.Steps.{Counted, Before, ofRecord, ofCounts}
 use Rattle.graph.specs.declared.file.Counts.{Counts}
-use Rattle.graph.specs.declared.rules.Passed.{Passed}
+use Rattle.graph.specs.declared.file.Passed.{Passed}
 
 -- some place has more than x just where the largest is more
 pub any-above : (f : ℕ → ℕ) (x n : ℕ) → any (λ j. ltb x (f j)) n ≡ ltb x (largest f n)
@@ -41,19 +41,24 @@ ordinal-passed s k r test = go (eqb (order s k) r) refl
     go true e = let o : order s k ≡ r = eqb-true (order s k) r e in rw o refl
     go false e = rw e
 
-pub before-none : (s : List ℕ) → Before s 0 (record { kinds = 0; vertices = 0; latest = 0 })
+pub before-none : (s : List ℕ) → Before s 0 (record { kinds = 0; vertices = 0; edges = 0; latest = 0 })
 unfolding count largest
-before-none s = record { kinds-passed = refl; vertices-passed = refl; latest-passed = refl }
+before-none s = record { kinds-passed = refl; vertices-passed = refl; edges-passed = refl; latest-passed = refl }
 
 pub before-more : (s : List ℕ) (k : ℕ) (p : Passed) → Before s k p
-    → Before s (k + 1) (record { kinds = p .kinds + bit (eqb (order s k) 0); vertices = p .vertices + bit (eqb (order s k) 1); latest = max (p .latest) (order s k) })
+    → Before s (k + 1) (record { kinds = p .kinds + bit (eqb (order s k) 0); vertices = p .vertices + bit (eqb (order s k) 1); edges = p .edges + bit (eqb (order s k) 2); latest = max (p .latest) (order s k) })
 unfolding isOrder largest
 before-more s k p h =
     record {
       kinds-passed = rw (h .kinds-passed) (sym (count-more (isOrder s 0) k));
       vertices-passed = rw (h .vertices-passed) (sym (count-more (isOrder s 1) k));
+      edges-passed = rw (h .edges-passed) (sym (count-more (isOrder s 2) k));
       latest-passed = rw (h .latest-passed, add-one k) refl;
     }
+
+pub all-passed : (s : List ℕ) (p : Passed) → Before s (records s) p → Counted s (record { kinds = p .kinds; n = p .vertices; edges = p .edges })
+unfolding many
+all-passed s p h = record { all-kinds = h .kinds-passed; all-vertices = h .vertices-passed; all-edges = h .edges-passed }
 
 -- the rows that are tested for each record, and those that are tested on the counts
 record-row : (s : List ℕ) (num k : ℕ) → perRecord num ≡ true → ofRecord s num k ≡ holds s num k

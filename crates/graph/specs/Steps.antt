@@ -1,7 +1,7 @@
 -- What the parts of the reader give each other. Only contracts of private functions cite this: nothing that a caller has to believe.
 --
 --   Counted s c          c holds how many records there are of each kind
---   Before s k p         p holds what a scan has passed before record k
+--   Before s k p         p holds what a pass has met before record k
 --   ofRecord s num k     the row of a number that is tested for each record
 --   ofCounts c num       the row of a number that is tested on the counts
 --   lowestIn a s         the lowest number from a to 10 that applies, with its place; or 11
@@ -25,7 +25,7 @@ use Rattle.graph.specs.declared.Answer.the-variants.{Accepted, Refused}
 use Rattle.graph.specs.declared.Graph.{Graph}
 use Rattle.graph.specs.declared.Taken.{Taken}
 use Rattle.graph.specs.declared.file.Counts.{Counts}
-use Rattle.graph.specs.declared.rules.Passed.{Passed}
+use Rattle.graph.specs.declared.file.Passed.{Passed}
 
 pub record Counted (s : List ℕ) (c : Counts) : Type 0 where
   pub all-kinds : c .kinds ≡ many s 0
@@ -35,6 +35,7 @@ pub record Counted (s : List ℕ) (c : Counts) : Type 0 where
 pub record Before (s : List ℕ) (k : ℕ) (p : Passed) : Type 0 where
   pub kinds-passed : p .kinds ≡ count (isOrder s 0) k
   pub vertices-passed : p .vertices ≡ count (isOrder s 1) k
+  pub edges-passed : p .edges ≡ count (isOrder s 2) k
   pub latest-passed : p .latest ≡ largest (order s) k
 
 unfoldable pub ofRecord : List ℕ → ℕ → ℕ → Bool

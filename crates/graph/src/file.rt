@@ -1,9 +1,10 @@
 // The records of a graph file, and how many there are of each kind.
 ghost use mathlib.Core.Path.{_≡_};
-ghost use Prim.Native.Nat.{_<_, _≤_};
+ghost use mathlib.Core.List.{List};
+ghost use Prim.Native.Nat.{ℕ, _+_, _<_, _≤_, max};
 ghost use Rattle.model.specs.Places.{bit};
-ghost use Rattle.graph.specs.File.{records, byteAt, wordAt, keyAt, order, many};
-ghost use Rattle.graph.specs.Steps.{Counted};
+ghost use Rattle.graph.specs.File.{records, byteAt, wordAt, keyAt, order};
+ghost use Rattle.graph.specs.Steps.{Counted, Before};
 
 // Byte `j` of record `k`.
 pub fn byte(file: &[u8], k: usize, j: usize) -> usize
@@ -57,18 +58,44 @@ pub fn one(b: bool) -> usize
     if b { 1 } else { 0 }
 }
 
-// How many records there are of an order.
-fn tally(file: &[u8], order: usize) -> usize
-    ensures { λ r. ⌜ r ≡ many (now (file .entry)) order ⌝ }
+// What a pass over the records has met: how many of each kind, and the latest order.
+pub struct Passed {
+    pub kinds: usize,
+    pub vertices: usize,
+    pub edges: usize,
+    pub latest: usize,
+}
+
+// A pass starts with none.
+pub fn start() -> Passed
+    ensures { λ r. ⌜ ((s : List ℕ) → Before s 0 r) ⌝ }
 {
-    let m = file.len() / 8;
-    let mut c: usize = 0;
-    let mut k = 0;
-    while k < m {
-        c += one(order_of(file, k) == order);
-        k += 1;
+    Passed {
+        kinds: 0,
+        vertices: 0,
+        edges: 0,
+        latest: 0,
     }
-    c
+}
+
+// One record more is passed.
+pub fn pass(file: &[u8], k: usize, p: Passed) -> Passed
+    requires { ⌜ (k < records (now file)) × Before (now file) k p ⌝ }
+    ensures { λ r. ⌜ Before (now (file .entry)) (k + 1) r ⌝ }
+{
+    let order = order_of(file, k);
+    Passed {
+        kinds: p.kinds + one(order == 0),
+        vertices: p.vertices + one(order == 1),
+        edges: p.edges + one(order == 2),
+        latest: later(p.latest, order),
+    }
+}
+
+fn later(x: usize, y: usize) -> usize
+    ensures { λ r. ⌜ r ≡ max x y ⌝ }
+{
+    if x < y { y } else { x }
 }
 
 // How many records there are of each kind.
@@ -81,8 +108,17 @@ pub struct Counts {
 pub fn count_all(file: &[u8]) -> Counts
     ensures { λ r. ⌜ Counted (now (file .entry)) r ⌝ }
 {
-    let kinds = tally(file, 0);
-    let n = tally(file, 1);
-    let edges = tally(file, 2);
-    Counts { kinds, n, edges }
+    let m = file.len() / 8;
+    let mut p = start();
+    let mut k = 0;
+    while k < m {
+        let next = pass(file, k, p);
+        p = next;
+        k += 1;
+    }
+    Counts {
+        kinds: p.kinds,
+        n: p.vertices,
+        edges: p.edges,
+    }
 }

@@ -9,9 +9,9 @@ ghost use Rattle.graph.specs.Judge.{placeOf};
 ghost use Rattle.graph.specs.Steps.{Counted, ofRecord, lowestIn};
 use super::Refusal;
 use super::file::Counts;
-use super::rules::Passed;
+use super::file::pass;
+use super::file::start;
 use super::rules::counts_fail;
-use super::rules::pass;
 use super::rules::record_fails;
 
 // Whether a number is tested for each record, and not for place 0 alone.
@@ -39,11 +39,7 @@ fn scan(file: &[u8], number: u32, c: Counts) -> usize
     ensures { λ r. ⌜ r ≡ first (ofRecord (now (file .entry)) number) (records (now (file .entry))) ⌝ }
 {
     let m = file.len() / 8;
-    let mut p = Passed {
-        kinds: 0,
-        vertices: 0,
-        latest: 0,
-    };
+    let mut p = start();
     let mut k = 0;
     while k < m {
         if record_fails(file, number, k, p, c) {

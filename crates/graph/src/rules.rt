@@ -3,15 +3,15 @@
 // The table speaks of records before the one at fault: "after a vertex or edge", "its place among its kind". A scan carries
 // what these need of the records that it passed, so that each test looks at one record, or two.
 ghost use mathlib.Core.Path.{_≡_};
-ghost use Prim.Native.Nat.{_+_, _<_, max};
+ghost use Prim.Native.Nat.{_<_};
 ghost use Rattle.model.specs.Places.{count, largest};
 ghost use Rattle.graph.specs.File.{records, order, isOrder, many};
 ghost use Rattle.graph.specs.Rules.{rule1, rule2, rule3, rule5, rule7, rule9, rule10};
 ghost use Rattle.graph.specs.Steps.{Counted, Before, ofCounts, ofRecord};
 use super::file::Counts;
+use super::file::Passed;
 use super::file::byte;
 use super::file::key;
-use super::file::one;
 use super::file::order_of;
 use super::file::word;
 
@@ -87,32 +87,6 @@ fn not_above(file: &[u8], k: usize) -> bool
     let order = order_of(file, k);
     let before = order_of(file, k - 1);
     (order == 2) & ((before == 2) & (key(file, k) <= key(file, k - 1)))
-}
-
-// What a scan has passed: how many types, how many vertices, and the latest order.
-pub struct Passed {
-    pub kinds: usize,
-    pub vertices: usize,
-    pub latest: usize,
-}
-
-// One record more is passed.
-pub fn pass(file: &[u8], k: usize, p: Passed) -> Passed
-    requires { ⌜ (k < records (now file)) × Before (now file) k p ⌝ }
-    ensures { λ r. ⌜ Before (now (file .entry)) (k + 1) r ⌝ }
-{
-    let order = order_of(file, k);
-    Passed {
-        kinds: p.kinds + one(order == 0),
-        vertices: p.vertices + one(order == 1),
-        latest: later(p.latest, order),
-    }
-}
-
-fn later(x: usize, y: usize) -> usize
-    ensures { λ r. ⌜ r ≡ max x y ⌝ }
-{
-    if x < y { y } else { x }
 }
 
 // Whether record `k` is at fault by number 2, 3, 5, 7, 9 or 10.

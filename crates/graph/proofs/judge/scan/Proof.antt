@@ -4,7 +4,6 @@ use mathlib.Core.Bool.{false}
 use native.Mathlib.Omega.{arith}
 use borrow.Author.Count.{below-none, below-more}
 use Rattle.graph.specs.Steps.{Before, ofRecord}
-use Rattle.graph.proofs.Scan.{before-none}
 use Rattle.model.proofs.Places.{first-at, first-none}
 use borrow.Author.Needs.{needs}
 use Rattle.graph.proofs.judge.scan.Statement.{statement}
@@ -16,11 +15,14 @@ Inv-loop file number c m p₀ k₀ p k = (k ≤ m) × Before file k p × ((j : �
 abbrev μ-loop : tie.MeasureT-loop
 μ-loop file number c m p₀ k₀ p k = m - k
 
+start-requires : tie.Need-start-requires Inv-loop μ-loop
+start-requires c κs = search needs
+
 loop-holds : tie.Need-loop-holds Inv-loop μ-loop
-loop-holds c = (search needs, before-none _, below-none _)
+loop-holds c = (search needs, c .start .ensures _, below-none _)
 
 record-fails-requires : tie.Need-record-fails-requires Inv-loop μ-loop
-record-fails-requires c κs = (search needs, c .before .loop .inv .1, c .before .before .before .pre)
+record-fails-requires c κs = (search needs, c .before .loop .inv .1, c .before .before .before .before .pre)
 
 returns : tie.Need-returns Inv-loop μ-loop
 returns c =
@@ -48,6 +50,7 @@ scan-spec =
     (tie.spec
     Inv-loop
     μ-loop
+    start-requires
     loop-holds
     record-fails-requires
     returns

@@ -3,8 +3,8 @@ use Rattle.graph.specs.File.{isOrder}
 use Rattle.model.proofs.Places.{count-le}
 use Rattle.graph.proofs.Scan.{before-more}
 use borrow.Author.Needs.{needs}
-use Rattle.graph.proofs.rules.pass.Statement.{statement}
-use Rattle.graph.proofs.rules.pass.Tie as tie
+use Rattle.graph.proofs.file.pass.Statement.{statement}
+use Rattle.graph.proofs.file.pass.Tie as tie
 
 order-of-requires : tie.Need-order-of-requires
 order-of-requires c κs = search needs
@@ -25,16 +25,25 @@ add-t10 c =
     let a = c .before .before .before .before .before .before in
     omega (arith, a .pre .1 .vertices-passed, count-le (isOrder (a .args .file .now) 1) (a .args .k))
 
+one-requires-3 : tie.Need-one-requires-3
+one-requires-3 c κs = search needs
+
+add-t13 : tie.Need-add-t13
+add-t13 c =
+    let a = c .before .before .before .before .before .before .before .before in
+    omega (arith, a .pre .1 .edges-passed, count-le (isOrder (a .args .file .now) 2) (a .args .k))
+
 later-requires : tie.Need-later-requires
 later-requires c κs = search needs
 
 returns : tie.Need-returns
 returns c =
-    let a = c .before .before .before .before .before .before .before in
-    rw (c .later .ensures, c .before .before .one2 .ensures .0, c .before .before .before .before .one .ensures .0, c .before .before .before .before .before .order-of .ensures .0)
+    let b = c .before .before in
+    let a = b .before .before .before .before .before .before .before in
+    rw (c .later .ensures, b .one3 .ensures .0, b .before .before .one2 .ensures .0, b .before .before .before .before .one .ensures .0, b .before .before .before .before .before .order-of .ensures .0)
     (before-more (a .args .file .now) (a .args .k) (a .args .p) (a .pre .1))
 
 pub pass-spec : {M : Type 1} → statement M
 pass-spec =
     tie.close
-    (tie.spec order-of-requires one-requires add-t7 one-requires-2 add-t10 later-requires returns)
+    (tie.spec order-of-requires one-requires add-t7 one-requires-2 add-t10 one-requires-3 add-t13 later-requires returns)
