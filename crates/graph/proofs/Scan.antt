@@ -1,7 +1,7 @@
 -- What a scan carries from record to record is enough: the tests of the code are the rows of the table.
-use mathlib.Core.Path.{_≡_, refl, sym, ap, fun-ext}
+use mathlib.Core.Path.{_≡_, refl, sym, ap, _∙_, fun-ext}
 use mathlib.Core.Logic.{_⊎_, inl, inr}
-use mathlib.Core.Bool.{Bool, true, false, _&&_, _||_}
+use mathlib.Core.Bool.{Bool, true, false, not, _&&_, _||_, and-false, or-false}
 use mathlib.Core.List.{List}
 use Prim.Native.Nat.{ℕ, zero, suc, _+_, _≤_, _<_, max}
 use native.Mathlib.Numerals.{add-one}
@@ -10,12 +10,12 @@ use native.Mathlib.Decide.{ℕ-discrete}
 use lib.Dec.{eqb, ltb}
 use borrow.Author.Tests.{lt-ltb, le-ltb, ne-eqb, eqb-true, eqb-false}
 use Rattle.model.specs.Places.{pick, bit, first, count, any, largest}
-use Rattle.model.proofs.Bools.{le-or-lt, or-neither}
-use Rattle.model.proofs.Places.{count-more}
+use Rattle.model.proofs.Bools.{cases, le-or-lt, or-neither, not-is-true}
+use Rattle.model.proofs.Places.{first-none, count-more, any-false}
 use Rattle.graph.specs.File.{records, order, isOrder, many, ordinal}
-use Rattle.graph.specs.Rules.{holds, perRecord, places, rule4, rule6, rule8}
-use Rattle.graph.specs.Judge.{placeOf}
-use Rattle.graph.specs.Steps.{Counted, Before, ofRecord, ofCounts}
+use Rattle.graph.specs.Rules.{holds, perRecord, places, rule2, rule3, rule4, rule5, rule6, rule7, rule8, rule9, rule10}
+use Rattle.graph.specs.Judge.{placeOf, applies}
+use Rattle.graph.specs.Steps.{Counted, Before, ofRecord, faulty, ofCounts}
 use Rattle.graph.specs.declared.file.Counts.{Counts}
 use Rattle.graph.specs.declared.file.Passed.{Passed}
 
@@ -59,6 +59,19 @@ before-more s k p h =
 pub all-passed : (s : List ℕ) (p : Passed) → Before s (records s) p → Counted s (record { kinds = p .kinds; n = p .vertices; edges = p .edges })
 unfolding many
 all-passed s p h = record { all-kinds = h .kinds-passed; all-vertices = h .vertices-passed; all-edges = h .edges-passed }
+
+-- of the rows that are said of records of one kind, those of another kind do not hold
+pub faulty-kind : (s : List ℕ) (k : ℕ) → order s k ≡ 0 → (rule2 s k || rule3 s k) || rule5 s k ≡ faulty s k
+unfolding faulty rule7 rule9 rule10
+faulty-kind s k e = simp (e, and-false, or-false)
+
+pub faulty-vertex : (s : List ℕ) (k : ℕ) → order s k ≡ 1 → (rule2 s k || rule3 s k) || rule7 s k ≡ faulty s k
+unfolding faulty rule5 rule9 rule10
+faulty-vertex s k e = simp (e, and-false, or-false)
+
+pub faulty-edge : (s : List ℕ) (k : ℕ) → (order s k ≡ 0 → ⊥) → (order s k ≡ 1 → ⊥) → (rule2 s k || rule3 s k) || (rule9 s k || rule10 s k) ≡ faulty s k
+unfolding faulty rule5 rule7
+faulty-edge s k a b = simp (ne-eqb (order s k) 0 a, ne-eqb (order s k) 1 b)
 
 -- the rows that are tested for each record, and those that are tested on the counts
 record-row : (s : List ℕ) (num k : ℕ) → perRecord num ≡ true → ofRecord s num k ≡ holds s num k
@@ -104,3 +117,37 @@ pub place-counts : (s : List ℕ) (num : ℕ) (c : Counts) → Counted s c → 2
     → pick (ofCounts c num) 0 1 ≡ placeOf s num
 unfolding placeOf places first
 place-counts s num c n l u h = rw (h, counts-row s num 0 c n l u h) refl
+
+-- where no record and no count is at fault, no number up to 10 applies
+neither : (b x y : Bool) → x ≡ false → y ≡ false → pick b x y ≡ false
+neither true x y p q = p
+neither false x y p q = q
+
+record-fine : (s : List ℕ) (k num : ℕ) → faulty s k ≡ false → ofRecord s num k ≡ false
+unfolding faulty ofRecord
+record-fine s k num h =
+    let f = or-neither (rule2 s k || rule3 s k) _ h in
+    let x = or-neither (rule2 s k) (rule3 s k) (f .0) in
+    let y = or-neither (rule5 s k) _ (f .1) in
+    let z = or-neither (rule7 s k) _ (y .1) in
+    let w = or-neither (rule9 s k) (rule10 s k) (z .1) in
+    neither (eqb num 2) _ _ (x .0) (neither (eqb num 3) _ _ (x .1) (neither (eqb num 5) _ _ (y .0) (neither (eqb num 7) _ _ (z .0) (neither (eqb num 9) _ _ (w .0) (w .1)))))
+
+counts-fine : (c : Counts) (num : ℕ) → ofCounts c 4 || (ofCounts c 6 || ofCounts c 8) ≡ false → ofCounts c num ≡ false
+unfolding ofCounts
+counts-fine c num h =
+    let x = or-neither (ofCounts c 4) _ h in
+    let y = or-neither (ofCounts c 6) (ofCounts c 8) (x .1) in
+    neither (eqb num 4) _ _ (x .0) (neither (eqb num 6) _ _ (y .0) (y .1))
+
+pub none-applies : (s : List ℕ) (c : Counts) → Counted s c
+    → not ((ofCounts c 4 || (ofCounts c 6 || ofCounts c 8)) || any (faulty s) (records s)) ≡ true → (num : ℕ) → 2 ≤ num → num < 11 → applies s num ≡ false
+unfolding applies places
+none-applies s c n h num l u = go (or-neither (ofCounts c 4 || (ofCounts c 6 || ofCounts c 8)) (any (faulty s) (records s)) (not-is-true _ h)) (cases (perRecord num))
+  where
+    go : (ofCounts c 4 || (ofCounts c 6 || ofCounts c 8) ≡ false) × (any (faulty s) (records s) ≡ false) → (perRecord num ≡ true) ⊎ (perRecord num ≡ false)
+        → ltb (placeOf s num) (places s num) ≡ false
+    go f (inl e) =
+        let at : placeOf s num ≡ records s = sym (place-record s num e) ∙ first-none (ofRecord s num) (records s) (λ k b. record-fine s k num (any-false (faulty s) (records s) k b (f .1))) in
+        rw (at, e) (le-ltb (records s) (records s) (omega arith))
+    go f (inr e) = rw (← place-counts s num c n l u e, counts-fine c num (f .0), e) refl

@@ -1,16 +1,18 @@
 // The lowest number, up to 10, that applies, with the first record that it holds for.
 ghost use mathlib.Core.Path.{_≡_};
-ghost use Prim.Native.Nat.{_<_, _≤_};
+ghost use mathlib.Core.Bool.{true, false};
+ghost use Prim.Native.Nat.{ℕ, _<_, _≤_};
 ghost use lib.ListN.{length};
-ghost use Rattle.model.specs.Places.{first};
+ghost use Rattle.model.specs.Places.{first, any};
 ghost use Rattle.graph.specs.File.{records};
 ghost use Rattle.graph.specs.Rules.{perRecord, places};
-ghost use Rattle.graph.specs.Judge.{placeOf};
-ghost use Rattle.graph.specs.Steps.{Counted, ofRecord, lowestIn};
+ghost use Rattle.graph.specs.Judge.{placeOf, applies};
+ghost use Rattle.graph.specs.Steps.{Counted, ofRecord, faulty, lowestIn};
 use super::Refusal;
 use super::file::Counts;
 use super::file::pass;
 use super::file::start;
+use super::rules::at_fault;
 use super::rules::counts_fail;
 use super::rules::record_fails;
 
@@ -63,8 +65,8 @@ fn place(file: &[u8], number: u32, c: Counts) -> usize
     if counts_fail(number, c) { 0 } else { 1 }
 }
 
-// The lowest number from `least` to 10 that applies, with its place; or 11, where none does.
-pub fn lowest(file: &[u8], least: u32, c: Counts) -> Refusal
+// The lowest number from `least` to 10 that applies, with its place; or 11, where none does. The numbers are tested in order.
+fn by_number(file: &[u8], least: u32, c: Counts) -> Refusal
     requires { ⌜ Counted (now file) c × (2 ≤ least) × (least ≤ 11) × (length (now file) ≤ 9320) ⌝ }
     ensures { λ r. ⌜ r ≡ lowestIn least (now (file .entry)) ⌝ }
 {
@@ -84,4 +86,45 @@ pub fn lowest(file: &[u8], least: u32, c: Counts) -> Refusal
         number: 11,
         place: 0,
     }
+}
+
+// Whether some record is at fault.
+fn some_fault(file: &[u8], c: Counts) -> bool
+    requires { ⌜ Counted (now file) c ⌝ }
+    ensures { λ r. ⌜ r ≡ any (faulty (now (file .entry))) (records (now (file .entry))) ⌝ }
+{
+    let m = file.len() / 8;
+    let mut some = false;
+    let mut p = start();
+    let mut k = 0;
+    while k < m {
+        some = some | at_fault(file, k, p, c);
+        let next = pass(file, k, p);
+        p = next;
+        k += 1;
+    }
+    some
+}
+
+// Whether it is seen in one pass that no number up to 10 applies.
+fn clean(file: &[u8], c: Counts) -> bool
+    requires { ⌜ Counted (now file) c ⌝ }
+    ensures { λ r. ⌜ (r ≡ true → (j : ℕ) → 2 ≤ j → j < 11 → applies (now (file .entry)) j ≡ false) ⌝ }
+{
+    let counts = counts_fail(4, c) | (counts_fail(6, c) | counts_fail(8, c));
+    !(counts | some_fault(file, c))
+}
+
+// The same as `by_number`. Most files are without fault, and are passed once.
+pub fn lowest(file: &[u8], least: u32, c: Counts) -> Refusal
+    requires { ⌜ Counted (now file) c × (2 ≤ least) × (least ≤ 11) × (length (now file) ≤ 9320) ⌝ }
+    ensures { λ r. ⌜ r ≡ lowestIn least (now (file .entry)) ⌝ }
+{
+    if clean(file, c) {
+        return Refusal {
+            number: 11,
+            place: 0,
+        };
+    }
+    by_number(file, least, c)
 }
