@@ -6,3 +6,4 @@ pub mod Judge
 -- What only private functions speak of.
 pub mod Steps
 pub mod Marks
+pub mod Ranks

@@ -88,11 +88,11 @@ pub fn pass(file: &[u8], k: usize, p: Passed) -> Passed
         kinds: p.kinds + one(order == 0),
         vertices: p.vertices + one(order == 1),
         edges: p.edges + one(order == 2),
-        latest: later(p.latest, order),
+        latest: larger(p.latest, order),
     }
 }
 
-fn later(x: usize, y: usize) -> usize
+pub fn larger(x: usize, y: usize) -> usize
     ensures { λ r. ⌜ r ≡ max x y ⌝ }
 {
     if x < y { y } else { x }

@@ -63,10 +63,12 @@ fn judged(g: Graph) -> Taken
     requires { ⌜ (g .n ≤ 128) × (g .edges ≤ 1024) ⌝ }
     ensures { λ t. ⌜ t ≡ takenOf g ⌝ }
 {
-    if cycle::cyclic(g) {
+    let n = g.n;
+    let edges = g.edges;
+    if cycle::cyclic(&g.edge, n, edges) {
         return refused_whole(11);
     }
-    if cycle::ends_astray(g) {
+    if cycle::ends_astray(&g.edge, n, edges) {
         return refused_whole(12);
     }
     Taken {

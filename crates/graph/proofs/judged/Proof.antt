@@ -1,5 +1,6 @@
 use mathlib.Core.Path.{refl, sym, _∙_}
 use Rattle.graph.specs.Steps.{takenOf}
+use Rattle.graph.proofs.Marks.{drawn-cyclic, drawn-astray}
 use borrow.Author.Needs.{needs}
 use Rattle.graph.proofs.judged.Statement.{statement}
 use Rattle.graph.proofs.judged.Tie as tie
@@ -12,7 +13,10 @@ refused-whole-requires c κs = search needs
 
 returns : tie.Need-returns
 unfolding takenOf
-returns c = rw (sym (c .before .before .cyclic .ensures) ∙ c .before .if1 .taken) (c .refused-whole .ensures)
+returns c =
+    let b = c .before .before in
+    let g = b .before .before .before .args .t1 in
+    rw (sym (drawn-cyclic g) ∙ sym (b .cyclic .ensures) ∙ c .before .if1 .taken) (c .refused-whole .ensures)
 
 ends-astray-requires : tie.Need-ends-astray-requires
 ends-astray-requires c κs = search needs
@@ -23,12 +27,18 @@ refused-whole-requires-2 c κs = search needs
 returns-2 : tie.Need-returns-2
 unfolding takenOf
 returns-2 c =
-    rw (sym (c .before .before .before .before .cyclic .ensures) ∙ c .before .before .before .if1 .left, sym (c .before .before .ends-astray .ensures) ∙ c .before .if2 .taken) (c .refused-whole2 .ensures)
+    let a = c .before .before in
+    let b = a .before .before .before .before in
+    let g = b .before .before .before .args .t1 in
+    rw (sym (drawn-cyclic g) ∙ sym (b .cyclic .ensures) ∙ a .before .before .before .if1 .left, sym (drawn-astray g) ∙ sym (a .ends-astray .ensures) ∙ c .before .if2 .taken) (c .refused-whole2 .ensures)
 
 returns-3 : tie.Need-returns-3
 unfolding takenOf
 returns-3 c =
-    rw (sym (c .before .before .before .cyclic .ensures) ∙ c .before .before .if1 .left, sym (c .before .ends-astray .ensures) ∙ c .if2 .left) refl
+    let a = c .before in
+    let b = a .before .before .before .before in
+    let g = b .before .before .before .args .t1 in
+    rw (sym (drawn-cyclic g) ∙ sym (b .cyclic .ensures) ∙ a .before .before .before .if1 .left, sym (drawn-astray g) ∙ sym (a .ends-astray .ensures) ∙ c .if2 .left) refl
 
 pub judged-spec : {M : Type 1} → statement M
 judged-spec =

@@ -1,64 +1,63 @@
-use Prim.Native.Nat.{ℕ, _+_, _≤_, _-_}
-use mathlib.Core.Path.{_≡_, refl, sym, ap, _∙_}
+use Prim.Native.Nat.{_≤_, _<_, _-_, _%_}
+use mathlib.Core.Path.{_≡_, refl, sym, _∙_}
+use mathlib.Core.Bool.{false}
 use native.Mathlib.Omega.{arith}
-use mir.Val.{Fits}
-use mir.Syntax.{w16}
-use lib.ListN.{getD}
-use Rattle.model.specs.Places.{count}
-use Rattle.model.specs.Cycle.{walks}
-use Rattle.graph.specs.Model.{asModel}
-use Rattle.graph.specs.Marks.{Marks}
-use Rattle.model.proofs.Places.{count-all}
-use Rattle.graph.proofs.Marks.{marks-all, marks-ones, walks-more, stopped, swept-out}
+use lib.Dec.{eqb, ltb}
+use borrow.Author.Tests.{ltb-true}
+use Rattle.graph.specs.Marks.{drawn}
+use Rattle.graph.specs.Ranks.{Reached}
+use Rattle.model.proofs.Bools.{clash, right-of}
+use Rattle.graph.proofs.Ranks.{Long, reached-none, long-more, long-still, long-end, told}
 use borrow.Author.Needs.{needs}
 use Rattle.graph.proofs.cycle.cyclic.Statement.{statement}
 use Rattle.graph.proofs.cycle.cyclic.Tie as tie
 
 abbrev Inv-loop : tie.InvT-loop
-Inv-loop g n edges cur₀ left₀ r₀ cur left r = (r ≤ n) × Marks cur (walks (asModel g) r) × (left ≡ count (walks (asModel g) r) n)
+Inv-loop edge n edges rank₀ moved₀ r₀ rank moved r =
+    (r ≤ n) × Reached (drawn edge n edges) rank × Long (drawn edge n edges) r rank × (moved ≡ false → Long (drawn edge n edges) n rank)
 
 abbrev μ-loop : tie.MeasureT-loop
-μ-loop g n edges cur₀ left₀ r₀ cur left r = n - r
+μ-loop edge n edges rank₀ moved₀ r₀ rank moved r = n - r
 
 loop-holds : tie.Need-loop-holds Inv-loop μ-loop
-unfolding walks
-loop-holds c = (search needs, marks-all _ (λ v. refl), sym (count-all _ _ (λ i l. refl)))
-
-returns : tie.Need-returns Inv-loop μ-loop
-unfolding asModel
-returns c =
-    let l = c .before .before .loop in
-    sym (stopped (asModel (c .before .before .before .args .t1)) (l .r) (l .inv .0) (sym (l .inv .2) ∙ c .if1 .taken))
+loop-holds c = (search needs, reached-none _, λ k b v t. omega arith, λ e. absurd (clash refl e))
 
 sweep-requires : tie.Need-sweep-requires Inv-loop μ-loop
 sweep-requires c κs = search needs
 
-tally-marks-requires : tie.Need-tally-marks-requires Inv-loop μ-loop
-tally-marks-requires c κs = search needs
+changed-requires : tie.Need-changed-requires Inv-loop μ-loop
+changed-requires c κs = search needs
 
 add-r : tie.Need-add-r Inv-loop μ-loop
 add-r c = search needs
 
 loop-less : tie.Need-loop-less Inv-loop μ-loop
-loop-less c = search needs
+loop-less c =
+    let n = c .before .before .before .before .before .before .args .n in
+    let l = c .before .before .before .before .before .loop in
+    omega (arith, ltb-true (l .r) n (right-of (l .moved) (ltb (l .r) n) (c .before .before .before .before .loop-test .taken)))
 
 loop-again : tie.Need-loop-again Inv-loop μ-loop
+unfolding drawn
 loop-again c =
-    let g = c .before .before .before .before .before .before .before .args .t1 in
-    let l = c .before .before .before .before .before .before .loop in
-    let next = c .before .sweep .result in
-    let wide : (i : ℕ) → Fits w16 (getD (g .edge) i 0) = λ i. search needs in
-    let m : Marks next (walks (asModel g) (l .r + 1)) = walks-more g (λ i. omega (arith, wide i)) next (l .cur) (l .r) (l .inv .1) (c .before .sweep .ensures) in
-    (search needs, m, c .tally-marks .ensures ∙ marks-ones next (walks (asModel g) (l .r + 1)) (g .n) (omega arith) m)
+    let a = c .before .before .before .before .before .before .args in
+    let l = c .before .before .before .before .before .loop in
+    let s = c .before .before .before .sweep in
+    let g = drawn (a .edge .now) (a .n) (a .edges) in
+    let back = eqb (l .r % 2) 1 in
+    let b : l .r < a .n = ltb-true (l .r) (a .n) (right-of (l .moved) (ltb (l .r) (a .n)) (c .before .before .before .before .loop-test .taken)) in
+    (search needs, s .ensures .1, long-more g back (l .rank) (s .result) (s .ensures .0) (l .r) b (l .inv .2), λ e. long-still g back (l .rank) (s .result) (s .ensures .0) (omega arith) (sym (c .changed .ensures) ∙ e))
 
-returns-2 : tie.Need-returns-2 Inv-loop μ-loop
-unfolding asModel
-returns-2 c =
-    let g = c .before .before .args .t1 in
-    let l = c .before .loop in
-    let e : l .r ≡ g .n = omega arith in
-    let z : l .left ≡ count (walks (asModel g) (g .n)) (g .n) = l .inv .2 ∙ ap (λ (r : ℕ). count (walks (asModel g) r) (g .n)) e in
-    rw z (swept-out (asModel g))
+topped-requires : tie.Need-topped-requires Inv-loop μ-loop
+topped-requires c κs = search needs
+
+returns : tie.Need-returns Inv-loop μ-loop
+unfolding drawn
+returns c =
+    let a = c .before .before .before .before .args in
+    let l = c .before .before .before .loop in
+    let g = drawn (a .edge .now) (a .n) (a .edges) in
+    c .topped .ensures ∙ told g (l .rank) (l .inv .1) (long-end g (l .rank) (l .moved) (l .r) (c .before .before .loop-test .left) (l .inv .0) (l .inv .2) (l .inv .3))
 
 pub cyclic-spec : {M : Type 1} → statement M
 cyclic-spec =
@@ -67,10 +66,10 @@ cyclic-spec =
     Inv-loop
     μ-loop
     loop-holds
-    returns
     sweep-requires
-    tally-marks-requires
+    changed-requires
     add-r
     loop-less
     loop-again
-    returns-2)
+    topped-requires
+    returns)

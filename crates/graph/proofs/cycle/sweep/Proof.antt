@@ -1,23 +1,27 @@
-use Prim.Native.Nat.{_≤_, _-_}
-use mathlib.Core.Path.{_≡_, refl}
-use mathlib.Core.Bool.{not}
+use Prim.Native.Nat.{_≤_, _<_, _-_}
+use mathlib.Core.Path.{_≡_, sym}
 use native.Mathlib.Omega.{arith}
-use Rattle.graph.specs.Marks.{Marks, tip, live, swept}
-use Rattle.model.specs.Places.{any}
-use Rattle.graph.proofs.Marks.{marks-none, marks-more}
+use lib.ListN.{length}
+use Rattle.graph.specs.Model.{from, to}
+use Rattle.graph.specs.Marks.{drawn}
+use Rattle.graph.specs.Ranks.{turned, Swept, Reached}
+use Rattle.graph.proofs.Ranks.{swept-none, swept-more, reached-more}
 use borrow.Author.Needs.{needs}
 use Rattle.graph.proofs.cycle.sweep.Statement.{statement}
 use Rattle.graph.proofs.cycle.sweep.Tie as tie
 
 abbrev Inv-loop : tie.InvT-loop
-Inv-loop edge edges n back cur next₀ i₀ next i = (i ≤ edges) × Marks next (swept edge n back cur i)
+Inv-loop edge n edges back rank₀ j₀ rank j =
+    (j ≤ edges) × Swept (drawn edge n edges) (turned back edges) j rank₀ rank × Reached (drawn edge n edges) rank
 
 abbrev μ-loop : tie.MeasureT-loop
-μ-loop edge edges n back cur next₀ i₀ next i = edges - i
+μ-loop edge n edges back rank₀ j₀ rank j = edges - j
 
 loop-holds : tie.Need-loop-holds Inv-loop μ-loop
-unfolding swept any
-loop-holds c = (search needs, marks-none _ (λ v. refl))
+loop-holds c = (search needs, swept-none _ _ _ (search needs), c .pre .2)
+
+turned-requires : tie.Need-turned-requires Inv-loop μ-loop
+turned-requires c κs = search needs
 
 mul-key : tie.Need-mul-key Inv-loop μ-loop
 mul-key c = search needs
@@ -25,42 +29,44 @@ mul-key c = search needs
 element-copy-out-key : tie.Need-element-copy-out-key Inv-loop μ-loop
 element-copy-out-key c = search needs
 
-end-of-requires : tie.Need-end-of-requires Inv-loop μ-loop
-end-of-requires c κs = search needs
+origin-requires : tie.Need-origin-requires Inv-loop μ-loop
+origin-requires c κs = search needs
 
-end-of-requires-2 : tie.Need-end-of-requires-2 Inv-loop μ-loop
-end-of-requires-2 c κs = search needs
+target-requires : tie.Need-target-requires Inv-loop μ-loop
+target-requires c κs = search needs
 
-array-read-on : tie.Need-array-read-on Inv-loop μ-loop
-array-read-on c = search needs
+array-read-raised : tie.Need-array-read-raised Inv-loop μ-loop
+array-read-raised c = search needs
 
-array-read-joined : tie.Need-array-read-joined Inv-loop μ-loop
-array-read-joined c = search needs
+array-read-raised-2 : tie.Need-array-read-raised-2 Inv-loop μ-loop
+array-read-raised-2 c = search needs
 
-joined-requires : tie.Need-joined-requires Inv-loop μ-loop
-joined-requires c κs = search needs
+raised-requires : tie.Need-raised-requires Inv-loop μ-loop
+raised-requires c κs = search needs
 
-array-write-next : tie.Need-array-write-next Inv-loop μ-loop
-array-write-next c = search needs
+array-write-rank : tie.Need-array-write-rank Inv-loop μ-loop
+array-write-rank c = search needs
 
-add-i : tie.Need-add-i Inv-loop μ-loop
-add-i c = search needs
+add-j : tie.Need-add-j Inv-loop μ-loop
+add-j c = search needs
 
 loop-less : tie.Need-loop-less Inv-loop μ-loop
 loop-less c = search needs
 
 loop-again : tie.Need-loop-again Inv-loop μ-loop
-unfolding swept live tip
+unfolding from to drawn
 loop-again c =
-    let a = c .before .before .before .before .before .before .args in
-    let l = c .before .before .before .before .before .loop in
-    let far = c .before .end-of2 .ensures in
-    (search needs, simp (c .joined .ensures, c .before .before .end-of .ensures .0, far .0) (marks-more (l .next) (tip (a .edge .now) (not (a .back))) (live (a .edge .now) (a .n) (a .back) (a .t5)) (l .i) (rw (far .0) at (far .1)) (l .inv .1)))
+    let a = c .before .before .before .before .before .before .before .args in
+    let l = c .before .before .before .before .before .before .loop in
+    let t = c .before .before .before .before .turned in
+    let g = drawn (a .edge .now) (a .n) (a .edges) in
+    let byte : to g (t .result) < 256 = omega arith in
+    (search needs, rw (c .raised .ensures, c .before .target .ensures .0, c .before .before .origin .ensures .0) (swept-more g (l .rank) (t .result) (l .inv .1 .size) byte (turned (a .back) (a .edges)) (l .j) (a .old) (sym (t .ensures .0)) (l .inv .1)), rw (c .raised .ensures, c .before .target .ensures .0, c .before .before .origin .ensures .0) (reached-more g (l .rank) (t .result) (l .inv .1 .size) byte (t .ensures .1) (l .inv .2)))
 
 returns : tie.Need-returns Inv-loop μ-loop
 returns c =
-    let e : c .before .loop .i ≡ c .before .before .args .edges = omega arith in
-    rw e at (c .before .loop .inv .1)
+    let e : c .before .loop .j ≡ c .before .before .args .edges = omega arith in
+    (rw e at (c .before .loop .inv .1), c .before .loop .inv .2)
 
 pub sweep-spec : {M : Type 1} → statement M
 sweep-spec =
@@ -69,15 +75,16 @@ sweep-spec =
     Inv-loop
     μ-loop
     loop-holds
+    turned-requires
     mul-key
     element-copy-out-key
-    end-of-requires
-    end-of-requires-2
-    array-read-on
-    array-read-joined
-    joined-requires
-    array-write-next
-    add-i
+    origin-requires
+    target-requires
+    array-read-raised
+    array-read-raised-2
+    raised-requires
+    array-write-rank
+    add-j
     loop-less
     loop-again
     returns)

@@ -33,17 +33,17 @@ add-t13 c =
     let a = c .before .before .before .before .before .before .before .before in
     omega (arith, a .pre .1 .edges-passed, count-le (isOrder (a .args .file .now) 2) (a .args .k))
 
-later-requires : tie.Need-later-requires
-later-requires c κs = search needs
+larger-requires : tie.Need-larger-requires
+larger-requires c κs = search needs
 
 returns : tie.Need-returns
 returns c =
     let b = c .before .before in
     let a = b .before .before .before .before .before .before .before in
-    rw (c .later .ensures, b .one3 .ensures .0, b .before .before .one2 .ensures .0, b .before .before .before .before .one .ensures .0, b .before .before .before .before .before .order-of .ensures .0)
+    rw (c .larger .ensures, b .one3 .ensures .0, b .before .before .one2 .ensures .0, b .before .before .before .before .one .ensures .0, b .before .before .before .before .before .order-of .ensures .0)
     (before-more (a .args .file .now) (a .args .k) (a .args .p) (a .pre .1))
 
 pub pass-spec : {M : Type 1} → statement M
 pass-spec =
     tie.close
-    (tie.spec order-of-requires one-requires add-t7 one-requires-2 add-t10 one-requires-3 add-t13 later-requires returns)
+    (tie.spec order-of-requires one-requires add-t7 one-requires-2 add-t10 one-requires-3 add-t13 larger-requires returns)

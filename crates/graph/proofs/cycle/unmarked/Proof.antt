@@ -5,21 +5,21 @@ use Rattle.model.specs.Places.{count}
 use Rattle.graph.specs.Marks.{stands}
 use Rattle.model.proofs.Places.{count-more}
 use borrow.Author.Needs.{needs}
-use Rattle.graph.proofs.cycle.tally_marks.Statement.{statement}
-use Rattle.graph.proofs.cycle.tally_marks.Tie as tie
+use Rattle.graph.proofs.cycle.unmarked.Statement.{statement}
+use Rattle.graph.proofs.cycle.unmarked.Tie as tie
 
 abbrev Inv-loop : tie.InvT-loop
-Inv-loop x n marks c₀ v₀ c v = (v ≤ n) × (c ≡ count (stands marks x) v) × (c ≤ v)
+Inv-loop marks n c₀ v₀ c v = (v ≤ n) × (c ≡ count (stands marks 0) v) × (c ≤ v)
 
 abbrev μ-loop : tie.MeasureT-loop
-μ-loop x n marks c₀ v₀ c v = n - v
+μ-loop marks n c₀ v₀ c v = n - v
 
 loop-holds : tie.Need-loop-holds Inv-loop μ-loop
 unfolding count
 loop-holds c = (search needs, refl, search needs)
 
-array-read-one : tie.Need-array-read-one Inv-loop μ-loop
-array-read-one c = search needs
+element-copy-out-one : tie.Need-element-copy-out-one Inv-loop μ-loop
+element-copy-out-one c = search needs
 
 one-requires : tie.Need-one-requires Inv-loop μ-loop
 one-requires c κs = search needs
@@ -35,21 +35,21 @@ loop-less c = search needs
 
 loop-again : tie.Need-loop-again Inv-loop μ-loop
 unfolding stands
-loop-again c = (search needs, simp (count-more, ← c .before .before .loop .inv .1, c .one .ensures .0), search needs)
+loop-again c = (search needs, simp (count-more, ← c .before .before .before .loop .inv .1, c .one .ensures .0), search needs)
 
 returns : tie.Need-returns Inv-loop μ-loop
 returns c =
     let e : c .before .loop .v ≡ c .before .before .args .n = omega arith in
     rw (← e) (c .before .loop .inv .1)
 
-pub tally-marks-spec : {M : Type 1} → statement M
-tally-marks-spec =
+pub unmarked-spec : {M : Type 1} → statement M
+unmarked-spec =
     tie.close
     (tie.spec
     Inv-loop
     μ-loop
     loop-holds
-    array-read-one
+    element-copy-out-one
     one-requires
     add-c
     add-v
