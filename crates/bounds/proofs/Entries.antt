@@ -14,10 +14,10 @@ use Rattle.graph.specs.declared.Answer.{Answer}
 use Rattle.graph.specs.declared.Answer.the-variants.{Accepted, Refused}
 use Rattle.graph.specs.declared.Taken.{Taken}
 use Rattle.graph.proofs.Accepted.{taken}
-use Rattle.bounds.specs.Weight.{weightBy}
+use Rattle.bounds.specs.Weight.{weightBy, stages}
 use Rattle.bounds.specs.declared.weights.Measure.the-variants.{Scaled}
-use Rattle.paths.specs.Ahead.{weigh, sumAt, Longest}
-use Rattle.paths.specs.Head.{Head}
+use Rattle.paths.specs.Ahead.{weigh, Summed}
+use Rattle.paths.specs.declared.ahead.Sums.{Sums}
 use Rattle.paths.specs.Trace.{Traced}
 use Rattle.bounds.specs.Answers.{Figures, Nothing, BoundsOf, PathIn, narrow, found, PathOf, refused, accepted}
 use Rattle.bounds.specs.declared.Bounded.{Bounded}
@@ -46,14 +46,13 @@ module _ (s : List ℕ) {t : Taken} (e : t ≡ readOf s) where
   pub path-refused : (old : List ℕ) {x : Refusal} → t .answer ≡ Refused x → PathOf s old (NoPath x) old
   path-refused old p = refused (answered p)
 
--- the trace from the head, over the scaled weights, is the path
-pub path-found : {g : Graph} (G : AcceptedGraph g) (w sums : List ℕ) (h : ℕ) (old new : List ℕ) (n : ℕ) → w ≡ padded 128 (weightBy Scaled (asModel g)) (g .n)
-    → Longest (asModel g) (weigh w) sums → Head (asModel g) (sumAt (weigh w) (weigh sums)) h → g .n ≤ length old
-    → Traced (asModel g) (weigh w) (weigh sums) h old new n → PathIn g old (Vertices n) new
+-- the trace from the source, over the scaled weights, is the path
+pub path-found : {g : Graph} (G : AcceptedGraph g) (w old : List ℕ) {r : Sums} {new : List ℕ} {n : ℕ} → w ≡ padded 128 (weightBy Scaled (stages (g .kind) (g .wcet) (g .cores) (g .kinds) (g .n))) (g .n)
+    → Summed (asModel g) (weigh w) r → g .n ≤ length old → Traced (asModel g) (weigh w) (weigh (r .ahead)) (r .head) old new n → PathIn g old (Vertices n) new
 unfolding asModel weightBy scaled
-path-found {g} G w sums h old new n e L H l T =
+path-found {g} G w old {r} e S l T =
     let W = G .well-formed in
-    let p = trace-path W (weigh w) (weigh sums) (L .ahead) h (T .rest) H (T .trace) in
+    let p = trace-path W (weigh w) (weigh (r .ahead)) (S .longest .ahead) (r .head) (T .rest) (S .head) (T .trace) in
     rw (T .held, T .count) (found l (least-longest-same W (weigh w) (scaled (asModel g)) (weighs (weightBy Scaled (asModel g)) (g .n) e) p))
 
 -- so many vertices as the answer says stand in the lent list

@@ -1,6 +1,8 @@
 -- Lists of weights:
 pub mod Filled
 pub mod Weighing
+-- The sum over the kinds:
+pub mod Volumes
 -- The entries:
 pub mod Entries
 -- What each public contract leaves open: nothing.

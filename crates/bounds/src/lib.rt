@@ -26,8 +26,10 @@ fn figures(g: Graph) -> Bounded
     ensures { λ r. ⌜ r .answer ≡ Accepted ⌝ }
     ensures { λ r. ⌜ Figures (asModel g) r ⌝ }
 {
-    let old = accepted::old_b(g);
-    let new = accepted::new_b_1(g);
+    let start = starts::starts(g);
+    let volume = volume::volume(&g.kind, &g.wcet, &g.cores, g.kinds, g.n);
+    let old = accepted::old_b(g, &start, volume);
+    let new = accepted::new_b_1(g, &start, volume);
     let ticks = new.ticks();
     Bounded {
         answer: Answer::Accepted,
@@ -80,10 +82,18 @@ fn path_into(g: Graph, out: &mut [u8]) -> Pathed
             place: 0,
         });
     }
-    let weight = weights::weights(g, weights::Measure::Scaled);
-    let sums = paths::ahead::longest(g, weight);
-    let h = paths::head::head(g, weight, sums);
-    Pathed::Vertices(paths::trace::trace(g, weight, sums, h, out))
+    let n = g.n;
+    let start = starts::starts(g);
+    let weight = weights::weights(
+        &g.kind,
+        &g.wcet,
+        &g.cores,
+        g.kinds,
+        n,
+        weights::Measure::Scaled,
+    );
+    let sums = paths::ahead::longest(&g.edge, &start, n, &weight);
+    Pathed::Vertices(paths::trace::trace(&g.edge, &start, &weight, &sums.ahead, sums.head, out))
 }
 
 // The path, a byte for each vertex, into the list that the caller lends.

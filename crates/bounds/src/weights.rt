@@ -1,12 +1,10 @@
 // What the vertices weigh, in one list for each measure. Places from N on are zero.
 ghost use mathlib.Core.Path.{_≡_};
-ghost use Prim.Native.Nat.{_<_, _≤_};
+ghost use Prim.Native.Nat.{ℕ, _<_, _≤_};
+ghost use lib.ListN.{getD};
 ghost use Rattle.model.specs.Places.{padded};
-ghost use Rattle.graph.specs.Model.{AcceptedGraph, asModel};
-ghost use Rattle.bounds.specs.Weight.{weightOf, weightBy};
-use graph::Graph;
+ghost use Rattle.bounds.specs.Weight.{rateOf, ratesOf, weightBy, stages, Small};
 use units::Parts;
-use units::Ticks;
 
 // Plain WCETs in ticks, or scaled weights in parts.
 pub enum Measure {
@@ -14,27 +12,48 @@ pub enum Measure {
     Scaled,
 }
 
-fn weight(by: Measure, wcet: u32, cores: u8) -> u64
-    requires { ⌜ wcet ≤ 1000000 ⌝ }
+fn rate(by: Measure, cores: u8) -> u64
     requires { ⌜ 0 < cores ⌝ }
-    ensures { λ r. ⌜ r ≡ weightOf by wcet cores ⌝ }
+    ensures { λ r. ⌜ r ≡ rateOf by cores ⌝ }
 {
     match by {
-        Measure::Plain => wcet as u64,
-        Measure::Scaled => Parts::rest(cores).for_ticks(Ticks(wcet as u64)).0,
+        Measure::Plain => 1,
+        Measure::Scaled => Parts::rest(cores).0,
     }
 }
 
-pub fn weights(g: Graph, by: Measure) -> [u64; 128]
-    requires { ⌜ AcceptedGraph g ⌝ }
-    ensures { λ r. ⌜ r ≡ padded 128 (weightBy by (asModel g)) (g .n) ⌝ }
+// What a tick weighs on each kind.
+fn rates(cores: &[u8; 10], kinds: usize, by: Measure) -> [u64; 10]
+    requires { ⌜ kinds ≤ 10 ⌝ }
+    requires { ⌜ ((s : ℕ) → s < kinds → 0 < getD (now cores) s 0) ⌝ }
+    ensures { λ r. ⌜ r ≡ padded 10 (ratesOf by (now (cores .entry))) kinds ⌝ }
 {
-    let n = g.n;
+    let mut list = [0u64; 10];
+    let mut s: usize = 0;
+    while s < kinds {
+        list[s] = rate(by, cores[s]);
+        s += 1;
+    }
+    list
+}
+
+pub fn weights<'a>(
+    kind: &'a [u8; 128],
+    wcet: &'a [u32; 128],
+    cores: &'a [u8; 10],
+    kinds: usize,
+    n: usize,
+    by: Measure,
+) -> [u64; 128]
+    requires { ⌜ Small (stages (now kind) (now wcet) (now cores) kinds n) ⌝ }
+    ensures { λ r. ⌜ r ≡ padded 128 (weightBy by (stages (now (kind .entry)) (now (wcet .entry)) (now (cores .entry)) kinds n)) n ⌝ }
+{
+    let rate = rates(cores, kinds, by);
     let mut list = [0u64; 128];
     let mut v: usize = 0;
     while v < n {
-        let kind = g.kind[v] as usize;
-        list[v] = weight(by, g.wcet[v], g.cores[kind]);
+        let s = kind[v] as usize;
+        list[v] = (wcet[v] as u64) * rate[s];
         v += 1;
     }
     list

@@ -4,16 +4,19 @@ use mathlib.Core.List.{List, _∷_}
 use Prim.Native.Nat.{ℕ, _+_, _*_, _≤_, _<_}
 use native.Mathlib.Nat.{mul-le-mul-left}
 use native.Mathlib.Omega.{arith}
-use lib.ListN.{getD}
+use lib.ListN.{getD, length}
 use Rattle.model.specs.Places.{along}
 use Rattle.model.specs.Graph.{Graph, WellFormed}
 use Rattle.model.specs.Cycle.{Acyclic}
-use Rattle.model.specs.Path.{ToSink, Complete, complete, Greatest, LeastLongest}
+use Rattle.model.specs.Path.{ToSink, end, link, Complete, complete, Greatest, LeastLongest}
 use Rattle.model.proofs.Paths.{along-path, head-known, path-short}
-use Rattle.paths.specs.Ahead.{weigh, sumAt, Ahead, Longest}
-use Rattle.paths.specs.Sweep.{Light}
-use Rattle.paths.specs.Head.{Head}
-use Rattle.paths.proofs.Sums.{along-most}
+use Rattle.paths.specs.Ahead.{weigh, sumAt, Light, Ahead, Longest, Head}
+
+-- no weight above c: no sum above c for each vertex
+along-most : (f : ℕ → ℕ) (c : ℕ) {G : Graph} (W : WellFormed G) {p : List ℕ} → ToSink G p → ((v : ℕ) → v < G .n → f v ≤ c) → along f p ≤ c * length p
+unfolding along
+along-most f c W (end {v = v} l s) h = omega (arith, h v l)
+along-most f c W (link {u = u} {v = v} e t) h = omega (arith, along-most f c W t h, h u (W .from u v e))
 
 module _ {G : Graph} (W : WellFormed G) where
   pub head-greatest : (f s : ℕ → ℕ) (h : ℕ) → ((v : ℕ) → v < G .n → Ahead G f v (s v)) → Head G (sumAt f s) h → Greatest G (along f) (f h + s h)

@@ -21,11 +21,9 @@ use Rattle.model.proofs.Places.{first-here, first-below}
 use Rattle.model.proofs.Bools.{clash, le-or-lt, both, left-of, right-of}
 use Rattle.model.proofs.Sums.{largest-most}
 use Rattle.model.proofs.Cycles.{ranked}
-use Rattle.model.proofs.Paths.{to-sink, path-short, source-tells}
-use Rattle.paths.specs.Ahead.{sumAt, Ahead}
-use Rattle.paths.specs.Head.{Head}
+use Rattle.model.proofs.Paths.{to-sink, to-source, head-known, path-short, source-tells}
+use Rattle.paths.specs.Ahead.{sumAt, Ahead, Head}
 use Rattle.paths.specs.Trace.{Trace, stop, on}
-use Rattle.paths.proofs.Heads.{some-source}
 use Rattle.paths.proofs.Complete.{head-greatest}
 use Rattle.paths.proofs.Traces.{trace-path}
 
@@ -127,10 +125,16 @@ module _ {G : Graph} (W : WellFormed G) (A : Acyclic G) (f : ℕ → ℕ) where
         largest-most (λ v. pick (source G v) (sumAt f (aheadOf G f) v) 0) (G .n) v l,
       )
 
+  some-source : (v : ℕ) × (v < G .n) × Source G v
+  some-source =
+      let d = to-sink W (ranked W A) 0 (W .some) in
+      let r = to-source W (ranked W A) 0 (d .0) (d .1) in
+      (r .top, head-known W (r .path), r .has)
+
   -- some source attains the largest
   attains : (v : ℕ) × (v < G .n) × (source G v ≡ true) × (sumAt f (aheadOf G f) v ≡ greatestOf G f)
   unfolding greatestOf
-  attains = go (some-source W A) (largest-is (λ v. pick (source G v) (sumAt f (aheadOf G f) v) 0) (G .n))
+  attains = go some-source (largest-is (λ v. pick (source G v) (sumAt f (aheadOf G f) v) 0) (G .n))
     where
       zero-sum : greatestOf G f ≡ 0 → (v : ℕ) × (v < G .n) × Source G v → (v : ℕ) × (v < G .n) × (source G v ≡ true) × (sumAt f (aheadOf G f) v ≡ greatestOf G f)
       zero-sum z s = (s .0, s .1, source-tells W .complete (s .0) (s .1) (s .2), omega (arith, source-sum (s .0) (s .1) (s .2), z))

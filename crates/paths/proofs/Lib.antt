@@ -1,8 +1,8 @@
--- Sums ahead of the vertices, swept until they stay:
+-- Sums ahead of the vertices, each once its successors' are known:
+pub mod Visits
+pub mod Sweeps
 pub mod Sums
-pub mod Passes
--- The source where the longest path begins, and its sum:
-pub mod Heads
+-- The sum of the longest path:
 pub mod Complete
 -- The least path that attains it:
 pub mod Traces

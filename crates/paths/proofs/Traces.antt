@@ -10,8 +10,7 @@ use Rattle.model.specs.Graph.{Graph, Edge, WellFormed}
 use Rattle.model.specs.Path.{ToSink, end, link, Complete, complete, Before, here, later, LeastLongest}
 use Rattle.model.proofs.Bools.{le-or-lt}
 use Rattle.model.proofs.Paths.{head-known}
-use Rattle.paths.specs.Ahead.{sumAt, Ahead}
-use Rattle.paths.specs.Head.{Head}
+use Rattle.paths.specs.Ahead.{sumAt, Ahead, Head}
 use Rattle.paths.specs.Trace.{Trace, stop, on}
 
 module _ {G : Graph} (W : WellFormed G) (f s : ℕ → ℕ) (L : (v : ℕ) → v < G .n → Ahead G f v (s v)) where

@@ -1,54 +1,117 @@
--- The path as the code writes it: a head, what was found so far, and the edge that goes on from the last vertex.
+-- The path as the code writes it: what is written so far, and the vertex that is next.
 use mathlib.Core.Path.{_≡_, refl, sym, ap, _∙_}
-use mathlib.Core.Bool.{true}
-use mathlib.Core.List.{List, [], _∷_, _++_, append-assoc, append-nil}
+use mathlib.Core.List.{List, [], _∷_, _++_, append-assoc}
 use mathlib.Core.Logic.{_⊎_, inl, inr}
 use Prim.Native.Nat.{ℕ, suc, _+_, _≤_, _<_}
 use native.Mathlib.Numerals.{add-one}
 use native.Mathlib.Omega.{arith}
-use lib.Dec.{eqb}
+use native.Mathlib.Decide.{ℕ-discrete}
 use lib.ListN.{getD, length, set, drop, length-append, length-set}
 use lib.Seq.{drop-cons, set-at}
-use borrow.Author.Tests.{eq-eqb, eqb-true}
 use Rattle.model.specs.Places.{along}
 use Rattle.model.specs.Graph.{Edge, Sink}
+use Rattle.model.specs.Graph as model
 use Rattle.model.specs.Path.{ToSink, end, link}
-use Rattle.model.proofs.Bools.{clash, both, left-of, right-of, le-or-lt}
+use Rattle.model.proofs.Bools.{le-or-lt}
 use Rattle.model.proofs.Cycles.{ranked}
 use Rattle.model.proofs.Paths.{to-sink, path-short}
-use Rattle.graph.specs.Model.{AcceptedGraph, asModel, from, to}
+use Rattle.graph.specs.Model.{asModel}
 use Rattle.graph.specs.declared.Graph.{Graph}
-use Rattle.paths.specs.Ahead.{weigh, Longest}
-use Rattle.paths.specs.Trace.{keeps, Onward, Trace, stop, on}
-use Rattle.graph.proofs.Edges.{edge-at, edge-place, to-ascends}
+use Rattle.graph.proofs.Edges.{to-ascends}
+use Rattle.paths.specs.Ahead.{weigh, Longest, RowsOf}
+use Rattle.paths.specs.Sweep.{goes, Visitable}
+use Rattle.paths.specs.Trace.{Trace, stop, on, Traceable, Traced, Keeps, Onward, by-edge, at-end}
+use Rattle.paths.proofs.Visits.{visitable}
+use Rattle.paths.proofs.Sums.{goes-to, row-edge, row-joins, row-of, laid}
+use Rattle.paths.proofs.Complete.{ahead-small}
 
-pub record Tracing (g : Graph) (f s : ℕ → ℕ) (h : ℕ) (old new : List ℕ) (n i : ℕ) : Type 0 where
-  pub vertex : ℕ
+-- one edge more that does not keep the sum
+pub unkept-more : (e w s : List ℕ) (u a i v : ℕ) → v ≡ goes e i → (weigh w v + getD s v 0 ≡ getD s u 0 → ⊥) → ((j : ℕ) → a ≤ j → j < i → Keeps e w s u j → ⊥)
+    → (j : ℕ) → a ≤ j → j < i + 1 → Keeps e w s u j → ⊥
+unkept-more e w s u a i v q x f j l m k = go (ℕ-discrete j i)
+  where
+    go : Dec (j ≡ i) → ⊥
+    go (yes z) = x (rw (q, ← z) k)
+    go (no z) = f j l (omega arith) k
+
+-- where the path goes on from u, or that it ends there
+record Next (G : model.Graph) (f s : ℕ → ℕ) (u v : ℕ) : Type 0 where
+  edge : v < 128 → Edge G u v
+  keeps : v < 128 → f v + s v ≡ s u
+  least : v < 128 → (x : ℕ) → Edge G u x → f x + s x ≡ s u → v ≤ x
+  sink : 128 ≤ v → Sink G u
+
+module _ {g : Graph} {e st w s : List ℕ} {h : ℕ} {old : List ℕ} (T : Traceable g e st w s h old) (u : ℕ) (known : u < g .n) where
+  R : RowsOf g e st
+  R = T .rows
+
+  L : Longest (asModel g) (weigh w) s
+  L = T .longest
+
+  pub trace-visitable : Visitable e st w s u
+  unfolding asModel
+  trace-visitable =
+      let G = R .accepted in
+      visitable (laid R refl (T .light)) s 92252160000000 (ahead-small (G .well-formed) (G .acyclic) (G .few-vertices) w s (T .light) L) (omega arith) u known
+
+  -- an edge of a longest path keeps the sum
+  kept : (x : ℕ) (p : List ℕ) → Edge (asModel g) u x → ToSink (asModel g) (x ∷ p) → along (weigh w) (x ∷ p) ≡ getD s u 0 → weigh w x + getD s x 0 ≡ getD s u 0
+  unfolding along asModel
+  kept x p d c h =
+      let W = R .accepted .well-formed in
+      let a = L .ahead x (W .to u x d) in
+      omega (arith, a .attained, a .unexceeded p c, L .ahead u known .unexceeded (x ∷ a .path) (link d (a .to-sink)))
+
+  onward-next : {v : ℕ} → Onward e st w s u v → Next (asModel g) (weigh w) (weigh s) u v
+  unfolding asModel along
+  onward-next (at-end none) = record { edge = λ l. absurd (omega arith); keeps = λ l. absurd (omega arith); least = λ l. absurd (omega arith); sink = λ l. let a = L .ahead u known in go (a .path) (a .to-sink) (a .attained) }
+    where
+      go : (p : List ℕ) → ToSink (asModel g) (u ∷ p) → along (weigh w) p ≡ getD s u 0 → Sink (asModel g) u
+      go [] (end m t) h = t
+      go (x ∷ p) (link d c) h = let r = row-of R u x d in absurd (none (r .0) (r .1) (r .2) (rw (r .3) (kept x p d c h)))
+  onward-next (by-edge i v a b q k below) = record { edge = λ l. edge; keeps = λ l. rw q k; least = λ l x d h. least x d h; sink = λ l. absurd (omega (arith, R .accepted .well-formed .to u v edge, R .accepted .few-vertices)) }
+    where
+      edge : Edge (asModel g) u v
+      edge = rw q (row-joins R u i known a b)
+
+      least : (x : ℕ) → Edge (asModel g) u x → weigh w x + getD s x 0 ≡ getD s u 0 → v ≤ x
+      least x d h = let r = row-of R u x d in go (r .0) (r .1) (r .2) (r .3) (le-or-lt i (r .0))
+        where
+          go : (j : ℕ) → getD st u 0 ≤ j → j < getD st (u + 1) 0 → goes e j ≡ x → (i ≤ j) ⊎ (j < i) → v ≤ x
+          go j c m z (inr n) = absurd (below j c n (rw z h))
+          go j c m z (inl n) =
+              let I = row-edge R u i known a b in
+              let J = row-edge R u j known c m in
+              omega (arith, q, z, goes-to R i, goes-to R j, to-ascends (R .accepted) i j n (J .0) (I .1 ∙ sym (J .1)))
+
+-- l is h and a trace from it
+pub record From (G : model.Graph) (f s : ℕ → ℕ) (h : ℕ) (l : List ℕ) : Type 0 where
   pub rest : List ℕ
-  pub known : vertex < g .n
-  pub edge : Onward g f s vertex i
-  pub count : n ≡ suc (length rest)
+  pub is : l ≡ h ∷ rest
+  pub trace : Trace G f s h rest
+
+-- the first n vertices are written, and v is next
+pub record Tracing (G : model.Graph) (f s : ℕ → ℕ) (h : ℕ) (old new : List ℕ) (n v : ℕ) : Type 0 where
+  pub done : List ℕ
+  pub count : n ≡ length done
   pub size : length new ≡ length old
-  pub held : new ≡ (h ∷ rest) ++ drop n old
-  pub to-sink : (p : List ℕ) → ToSink (asModel g) (vertex ∷ p) → ToSink (asModel g) (h ∷ (rest ++ p))
-  pub trace : (p : List ℕ) → Trace (asModel g) f s vertex p → Trace (asModel g) f s h (rest ++ p)
+  pub held : new ≡ done ++ drop n old
+  pub known : v < 128 → v < G .n
+  pub to-sink : v < 128 → (p : List ℕ) → ToSink G (v ∷ p) → ToSink G (done ++ (v ∷ p))
+  pub trace : v < 128 → (p : List ℕ) → Trace G f s v p → From G f s h (done ++ (v ∷ p))
+  pub ended : 128 ≤ v → From G f s h done
 
-first-set : (old : List ℕ) (h : ℕ) → 0 < length old → set old 0 h ≡ h ∷ drop 1 (set old 0 h)
-first-set [] h l = absurd (omega arith)
-first-set (x ∷ old) h l = refl
-
-pub tracing-none : (g : Graph) (f s : ℕ → ℕ) (h i : ℕ) (old : List ℕ) → 0 < length old → h < g .n → Onward g f s h i
-    → Tracing g f s h (set old 0 h) (set old 0 h) 1 i
-tracing-none g f s h i old l k e = record {
-  vertex = h;
-  rest = [];
-  known = k;
-  edge = e;
+pub tracing-none : {g : Graph} {e st w s : List ℕ} {h : ℕ} {old : List ℕ} → Traceable g e st w s h old → Tracing (asModel g) (weigh w) (weigh s) h old old 0 h
+unfolding asModel
+tracing-none T = record {
+  done = [];
   count = refl;
   size = refl;
-  held = first-set old h l;
-  to-sink = λ p t. t;
-  trace = λ p t. t;
+  held = refl;
+  known = λ m. T .vertex;
+  to-sink = λ m p t. t;
+  trace = λ m p t. record { rest = p; is = refl; trace = t };
+  ended = λ m. absurd (omega (arith, T .vertex, T .rows .accepted .few-vertices));
 }
 
 -- a place more
@@ -59,85 +122,38 @@ next-set old p v n e l =
     ∙ sym (append-assoc p (v ∷ []) (drop (suc n) old))
     ∙ ap (λ (k : ℕ). (p ++ (v ∷ [])) ++ drop k old) (sym (add-one n))
 
-module _ {g : Graph} (G : AcceptedGraph g) (f : ℕ → ℕ) (s : List ℕ) (L : Longest (asModel g) f s) where
-  -- an edge of a longest path keeps the sum
-  kept : (u x : ℕ) (q : List ℕ) → Edge (asModel g) u x → ToSink (asModel g) (x ∷ q) → f x + along f q ≡ getD s u 0 → f x + getD s x 0 ≡ getD s u 0
-  unfolding along
-  kept u x q e c h =
-      let W = G .well-formed in
-      let a = L .ahead x (W .to u x e) in
-      omega (arith, a .attained, a .unexceeded q c, L .ahead u (W .from u x e) .unexceeded (x ∷ a .path) (link e (a .to-sink)))
+module _ {g : Graph} {e st w s : List ℕ} {h : ℕ} {old : List ℕ} (T : Traceable g e st w s h old) (new : List ℕ) (n v : ℕ) (P : Tracing (asModel g) (weigh w) (weigh s) h old new n v) where
+  -- a path has at most N vertices, so there is a place left
+  pub tracing-room : v < 128 → n < g .n
+  unfolding asModel
+  tracing-room l =
+      let G = T .rows .accepted in
+      let t = to-sink (G .well-formed) (ranked (G .well-formed) (G .acyclic)) v (P .known l) in
+      omega (arith, P .count, path-short (G .well-formed) (G .acyclic) (P .to-sink l (t .0) (t .1)), length-append (P .done) (v ∷ t .0))
 
-  keeps-at : (u x j : ℕ) → from g j ≡ u → to g j ≡ x → f x + getD s x 0 ≡ getD s u 0 → keeps g f (weigh s) u j ≡ true
-  unfolding keeps
-  keeps-at u x j a b k =
-      both (eqb (from g j) u) (eqb (f (to g j) + getD s (to g j) 0) (getD s u 0)) (eq-eqb (from g j) u a) (eq-eqb (f (to g j) + getD s (to g j) 0) (getD s u 0) (rw b k))
+  pub tracing-more : (x : ℕ) → v < 128 → Onward e st w s v x → Tracing (asModel g) (weigh w) (weigh s) h old (set new n v) (n + 1) x
+  unfolding asModel
+  tracing-more x l O =
+      record {
+        done = P .done ++ (v ∷ []);
+        count = omega (arith, P .count, length-append (P .done) (v ∷ []));
+        size = length-set new n v ∙ P .size;
+        held = ap (λ (q : List ℕ). set q n v) (P .held) ∙ next-set old (P .done) v n (sym (P .count)) (omega (arith, tracing-room l, T .room));
+        known = λ k. T .rows .accepted .well-formed .to v x (N .edge k);
+        to-sink = λ k p t. rw (append-assoc (P .done) (v ∷ []) (x ∷ p)) (P .to-sink l (x ∷ p) (link (N .edge k) t));
+        trace = λ k p t. rw (append-assoc (P .done) (v ∷ []) (x ∷ p)) (P .trace l (x ∷ p) (on (N .edge k) (N .keeps k) (N .least k) t));
+        ended = λ k. P .trace l [] (stop (P .known l) (N .sink k));
+      }
+    where
+      N : Next (asModel g) (weigh w) (weigh s) v x
+      N = onward-next T v (P .known l) O
 
-  module _ (u i : ℕ) (known : u < g .n) (O : Onward g f (weigh s) u i) where
-    -- where no edge goes on, there is none
-    onward-none : g .edges ≤ i → Sink (asModel g) u
-    unfolding along asModel
-    onward-none l = let a = L .ahead u known in go (a .path) (a .to-sink) (a .attained)
-      where
-        go : (p : List ℕ) → ToSink (asModel g) (u ∷ p) → along f p ≡ getD s u 0 → Sink (asModel g) u
-        go [] (end m t) e = t
-        go (x ∷ p) (link d c) e =
-            let r = edge-place g u x d in
-            absurd (clash (keeps-at u x (r .place) (r .is-from) (r .is-to) (kept u x p d c e)) (O .below (r .place) (omega (arith, r .within))))
-
-    module _ (l : i < g .edges) where
-      onward-from : from g i ≡ u
-      unfolding keeps
-      onward-from = eqb-true (from g i) u (left-of (eqb (from g i) u) (eqb (f (to g i) + getD s (to g i) 0) (getD s u 0)) (O .there l))
-
-      onward-keeps : f (to g i) + getD s (to g i) 0 ≡ getD s u 0
-      unfolding keeps
-      onward-keeps =
-          eqb-true (f (to g i) + getD s (to g i) 0) (getD s u 0) (right-of (eqb (from g i) u) (eqb (f (to g i) + getD s (to g i) 0) (getD s u 0)) (O .there l))
-
-      onward-edge : Edge (asModel g) u (to g i)
-      onward-edge = rw onward-from at (edge-at g i l)
-
-      onward-least : (x : ℕ) → Edge (asModel g) u x → f x + getD s x 0 ≡ getD s u 0 → to g i ≤ x
-      onward-least x e k = let r = edge-place g u x e in go (r .place) (r .within) (r .is-from) (r .is-to) (le-or-lt i (r .place))
-        where
-          go : (j : ℕ) → j < g .edges → from g j ≡ u → to g j ≡ x → (i ≤ j) ⊎ (j < i) → to g i ≤ x
-          go j m a b (inl n) = omega (arith, to-ascends G i j n m (onward-from ∙ sym a))
-          go j m a b (inr n) = absurd (clash (keeps-at u x j a b k) (O .below j n))
-
-  module _ (h : ℕ) (old new : List ℕ) (n i : ℕ) (T : Tracing g f (weigh s) h old new n i) where
-    -- a path has at most N vertices, so there is a place left
-    pub tracing-room : i < g .edges → n < g .n
-    unfolding asModel
-    tracing-room l =
-        let W = G .well-formed in
-        let t = to-sink W (ranked W (G .acyclic)) (to g i) (G .to-known i l) in
-        let e = onward-edge (T .vertex) i (T .known) (T .edge) l in
-        omega (arith, T .count, path-short W (G .acyclic) (T .to-sink (to g i ∷ t .0) (link e (t .1))), length-append (T .rest) (to g i ∷ t .0))
-
-    pub tracing-more : (v j : ℕ) → i < g .edges → v ≡ to g i → g .n ≤ length old → Onward g f (weigh s) v j
-        → Tracing g f (weigh s) h old (set new n v) (n + 1) j
-    tracing-more v j l e m O = record {
-      vertex = v;
-      rest = T .rest ++ (v ∷ []);
-      known = rw e (G .to-known i l);
-      edge = O;
-      count = omega (arith, T .count, length-append (T .rest) (v ∷ []));
-      size = length-set new n v ∙ T .size;
-      held = ap (λ (q : List ℕ). set q n v) (T .held) ∙ next-set old (h ∷ T .rest) v n (sym (T .count)) (omega (arith, tracing-room l));
-      to-sink = λ p t. rw (append-assoc (T .rest) (v ∷ []) p) (T .to-sink (v ∷ p) (link edge t));
-      trace = λ p t. rw (append-assoc (T .rest) (v ∷ []) p) (T .trace (v ∷ p) (on edge keeping least t));
-    }
-      where
-        edge : Edge (asModel g) (T .vertex) v
-        edge = rw e (onward-edge (T .vertex) i (T .known) (T .edge) l)
-
-        keeping : f v + getD s v 0 ≡ getD s (T .vertex) 0
-        keeping = rw e (onward-keeps (T .vertex) i (T .known) (T .edge) l)
-
-        least : (x : ℕ) → Edge (asModel g) (T .vertex) x → f x + getD s x 0 ≡ getD s (T .vertex) 0 → v ≤ x
-        least = rw e (onward-least (T .vertex) i (T .known) (T .edge) l)
-
-    pub tracing-done : g .edges ≤ i → Trace (asModel g) f (weigh s) h (T .rest)
-    unfolding asModel
-    tracing-done l = rw (append-nil (T .rest)) at (T .trace [] (stop (T .known) (onward-none (T .vertex) i (T .known) (T .edge) l)))
+  pub tracing-done : 128 ≤ v → Traced (asModel g) (weigh w) (weigh s) h old new n
+  tracing-done l =
+      let d = P .ended l in
+      record {
+        rest = d .rest;
+        trace = d .trace;
+        count = P .count ∙ ap length (d .is);
+        held = P .held ∙ ap (λ (x : List ℕ). x ++ drop n old) (d .is);
+      }

@@ -8,28 +8,34 @@ use lib.ListN.{getD, length, drop}
 use lib.Seq.{ext-getD}
 use Rattle.model.specs.Graph.{Graph}
 use Rattle.model.proofs.Bools.{le-or-lt}
-use Rattle.paths.specs.Ahead.{Ahead, Longest}
-use Rattle.paths.specs.Head.{Head}
+use Rattle.paths.specs.Ahead.{weigh, sumAt, Ahead, Longest, Head, Summed}
+use Rattle.paths.specs.declared.ahead.Sums.{Sums}
 use Rattle.paths.specs.Trace.{Trace, stop, on, Traced}
 
 ahead-unique : {G : Graph} {f : ℕ → ℕ} {v x y : ℕ} → Ahead G f v x → Ahead G f v y → x ≡ y
 ahead-unique a b =
     omega (arith, a .attained, b .attained, a .unexceeded (b .path) (b .to-sink), b .unexceeded (a .path) (a .to-sink))
 
-pub longest-unique : {G : Graph} (f : ℕ → ℕ) (s t : List ℕ) → Longest G f s → Longest G f t → s ≡ t
+longest-unique : {G : Graph} (f : ℕ → ℕ) (s t : List ℕ) → Longest G f s → Longest G f t → s ≡ t
 longest-unique {G} f s t a b = ext-getD 0 s t (a .size ∙ sym (b .size)) (λ v l. go v (le-or-lt (G .n) v))
   where
     go : (v : ℕ) → (G .n ≤ v) ⊎ (v < G .n) → getD s v 0 ≡ getD t v 0
     go v (inl l) = a .past v l ∙ sym (b .past v l)
     go v (inr l) = ahead-unique (a .ahead v l) (b .ahead v l)
 
-pub head-unique : {G : Graph} (value : ℕ → ℕ) (h k : ℕ) → Head G value h → Head G value k → h ≡ k
+head-unique : {G : Graph} (value : ℕ → ℕ) (h k : ℕ) → Head G value h → Head G value k → h ≡ k
 head-unique value h k a b = go (le-or-lt h k) (le-or-lt k h)
   where
     go : (h ≤ k) ⊎ (k < h) → (k ≤ h) ⊎ (h < k) → h ≡ k
     go (inl l) (inl m) = omega arith
     go (inr l) x = absurd (omega (arith, a .first k l (b .is-source), b .most h (a .known) (a .is-source)))
     go (inl l) (inr m) = absurd (omega (arith, b .first h m (a .is-source), a .most k (b .known) (b .is-source)))
+
+pub summed-unique : {G : Graph} {f : ℕ → ℕ} (r r′ : Sums) → Summed G f r → Summed G f r′ → r ≡ r′
+summed-unique {f = f} r r′ a b =
+    let t = longest-unique f (r .ahead) (r′ .ahead) (a .longest) (b .longest) in
+    let h = head-unique (sumAt f (weigh (r′ .ahead))) (r .head) (r′ .head) (rw t at (a .head)) (b .head) in
+    λ i. record { ahead = t i; head = h i }
 
 trace-unique : {G : Graph} {f s : ℕ → ℕ} {u : ℕ} {p q : List ℕ} → Trace G f s u p → Trace G f s u q → p ≡ q
 trace-unique (stop l n) (stop m k) = refl

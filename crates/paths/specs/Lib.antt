@@ -2,5 +2,4 @@
 -- entries give is said in `bounds` with the definitions of `model`.
 pub mod Ahead
 pub mod Sweep
-pub mod Head
 pub mod Trace

@@ -1,11 +1,12 @@
--- Room for N, or the trace from the head.
+-- Room for N, or the trace from the source.
 use native.Mathlib.Omega.{arith}
 use borrow.Author.Needs.{needs}
 use Rattle.graph.specs.Model.{asModel}
+use Rattle.paths.specs.Ahead.{weigh, Weighed, Summed}
+use Rattle.paths.specs.Trace.{Traceable}
 use Rattle.bounds.specs.declared.weights.Measure.the-variants.{Scaled}
-use Rattle.paths.specs.Sweep.{Light}
 use Rattle.bounds.specs.Answers.{narrow}
-use Rattle.bounds.proofs.Weighing.{light-by, scaled-most}
+use Rattle.bounds.proofs.Weighing.{small-stages, weighed-by, scaled-most}
 use Rattle.bounds.proofs.Entries.{path-found}
 use Rattle.bounds.proofs.path_into.Statement.{statement}
 use Rattle.bounds.proofs.path_into.Tie as tie
@@ -13,39 +14,51 @@ use Rattle.bounds.proofs.path_into.Tie as tie
 returns : tie.Need-returns
 returns c = narrow (omega arith)
 
-weights-requires : tie.Need-weights-requires
-weights-requires c κs = search needs
+starts-requires : tie.Need-starts-requires
+starts-requires c κs = search needs
 
-light : (c : tie.After-weights) → Light (asModel (c .before .before .before .before .args .g)) (c .weights .result)
-light c = let p = c .before .before .before .before .pre in light-by p Scaled 720720000000 (scaled-most p) (c .weights .ensures) (omega arith)
+weights-requires : tie.Need-weights-requires
+weights-requires c κs = small-stages (c .before .before .before .before .before .before .before .pre)
+
+-- the weights of the graph, and its sums
+weighed : (c : tie.After-weights) → Weighed (c .before .before .before .before .before .before .before .before .args .t1) (c .before .before .before .before .before .before .before .before .args .t1 .edge) (c .before .before .before .before .before .starts .result) (c .before .before .before .before .before .before .before .before .args .t1 .n) (c .weights .result)
+weighed c =
+    let p = c .before .before .before .before .before .before .before .before .pre in
+    weighed-by p (c .before .before .before .before .before .starts .ensures) Scaled 720720000000 (scaled-most p) (omega arith) (c .weights .ensures)
+
+summed : (c : tie.After-longest) → Summed (asModel (c .before .before .before .before .before .before .before .before .before .before .before .before .before .args .t1)) (weigh (c .before .before .before .before .before .weights .result)) (c .longest .result)
+summed c = c .longest .ensures _ (weighed (c .before .before .before .before .before))
 
 longest-requires : tie.Need-longest-requires
-longest-requires c κs = (c .before .before .before .before .pre, light c)
+longest-requires c κs = (_, weighed (c .before .before .before .before))
 
-head-requires : tie.Need-head-requires
-head-requires c κs = (c .before .before .before .before .before .pre, (light (c .before), c .longest .ensures))
+traceable : (c : tie.After-trace-arg3) → Traceable (c .before .before .before .before .before .before .before .before .before .before .before .before .before .before .before .before .before .before .before .before .args .t1) (c .before .before .before .before .before .before .before .before .before .before .before .before .before .before .before .before .before .before .before .before .args .t1 .edge) (c .before .before .before .before .before .before .before .before .before .before .before .before .before .before .before .before .before .starts .result) (c .before .before .before .before .before .before .before .before .before .before .before .before .weights .result) (c .before .before .before .before .before .before .before .longest .result .ahead) (c .before .before .before .before .before .before .before .longest .result .head) (c .before .before .before .before .before .before .before .before .before .before .before .before .before .before .before .before .before .before .before .before .args .out .now)
+unfolding asModel
+traceable c =
+    let l = c .before .before .before .before .before .before .before in
+    let w = weighed (l .before .before .before .before .before) in
+    record { rows = w .rows; light = w .light; longest = summed l .longest; vertex = summed l .head .known; room = omega arith }
 
 trace-requires : tie.Need-trace-requires
-unfolding asModel
-trace-requires c κs =
-    (c .before .before .before .before .before .before .before .pre, (light (c .before .before .before), (c .before .before .longest .ensures, (c .before .head .ensures .known, omega arith))))
+trace-requires c κs = (_, traceable c)
 
 same-length : tie.Need-same-length
 same-length c = search needs
 
 returns-2 : tie.Need-returns-2
 returns-2 c =
-    let w = c .before .before .before .before .before .before in
-    path-found (w .before .before .before .before .pre) _ _ _ _ _ _ (w .weights .ensures) (c .before .before .before .before .before .longest .ensures) (c .before .before .before .before .head .ensures) (omega arith) (c .before .before .trace .ensures)
+    let t = c .before .before .before in
+    let l = t .before .before .before .before .before .before .before in
+    path-found (l .before .before .before .before .before .before .before .before .before .before .before .before .before .pre) _ _ (l .before .before .before .before .before .weights .ensures) (summed l) (traceable t .room) (c .before .before .trace .ensures _ (traceable t))
 
 pub path-into-spec : {M : Type 1} → statement M
 path-into-spec =
     tie.close
     (tie.spec
     returns
+    starts-requires
     weights-requires
     longest-requires
-    head-requires
     trace-requires
     same-length
     returns-2)

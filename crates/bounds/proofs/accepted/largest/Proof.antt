@@ -1,9 +1,10 @@
 -- The head is a vertex, and its sum is the largest.
-use Prim.Native.Nat.{_≤_, _<_}
+use Prim.Native.Nat.{_+_, _≤_, _<_}
 use native.Mathlib.Omega.{arith}
 use borrow.Author.Needs.{needs}
 use lib.ListN.{getD}
 use Rattle.graph.specs.Model.{asModel}
+use Rattle.paths.specs.Ahead.{weigh, Summed}
 use Rattle.paths.proofs.Complete.{ahead-small, head-greatest}
 use Rattle.bounds.proofs.accepted.largest.Statement.{statement}
 use Rattle.bounds.proofs.accepted.largest.Tie as tie
@@ -11,49 +12,52 @@ use Rattle.bounds.proofs.accepted.largest.Tie as tie
 longest-requires : tie.Need-longest-requires
 longest-requires c κs = search needs
 
-head-requires : tie.Need-head-requires
-head-requires c κs = search needs
+-- the sums of the graph that there is
+summed : (c : tie.After-longest) → Summed (asModel (c .before .pre .0)) (weigh (c .before .args .weight .now)) (c .longest .result)
+summed c = c .longest .ensures (c .before .pre .0) (c .before .pre .1)
 
-few : (c : tie.After-head) → c .head .result < 128
+few : (c : tie.After-longest) → c .longest .result .head < 128
 unfolding asModel
-few c = omega (arith, c .head .ensures .known, c .before .before .pre .0 .few-vertices)
+few c = omega (arith, summed c .head .known, c .before .pre .1 .rows .accepted .few-vertices)
+
+fits : (c : tie.After-longest)
+    → getD (c .before .args .weight .now) (c .longest .result .head) 0 + getD (c .longest .result .ahead) (c .longest .result .head) 0 ≤ 92972880000000
+unfolding asModel
+fits c =
+    let p = c .before .pre .1 in
+    let G = p .rows .accepted in
+    let h = summed c .head .known in
+    omega (arith, p .light (c .longest .result .head) h, ahead-small (G .well-formed) (G .acyclic) (G .few-vertices) (c .before .args .weight .now) (c .longest .result .ahead) (p .light) (summed c .longest) (c .longest .result .head) h)
 
 mul-result : tie.Need-mul-result
 mul-result c = omega (arith, few c)
 
-array-read-result : tie.Need-array-read-result
-array-read-result c = omega (arith, few c)
+element-copy-out-result : tie.Need-element-copy-out-result
+element-copy-out-result c = omega (arith, few c)
 
 mul-result-2 : tie.Need-mul-result-2
-mul-result-2 c = omega (arith, few c)
+mul-result-2 c = omega (arith, few (c .before))
 
-array-read-result-2 : tie.Need-array-read-result-2
-array-read-result-2 c = omega (arith, few c)
-
-light : (c : tie.After-head) → getD (c .before .before .args .t2) (c .head .result) 0 ≤ 720720000000
-light c = c .before .before .pre .1 (c .head .result) (c .head .ensures .known)
-
-small : (c : tie.After-head) → getD (c .before .longest .result) (c .head .result) 0 ≤ 92252160000000
-unfolding asModel
-small c =
-    let p = c .before .before .pre in
-    ahead-small (p .0 .well-formed) (p .0 .acyclic) (p .0 .few-vertices) (c .before .before .args .t2) _ (p .1) (c .before .longest .ensures) (c .head .result) (c .head .ensures .known)
+element-copy-out-result-2 : tie.Need-element-copy-out-result-2
+element-copy-out-result-2 c = omega (arith, few (c .before))
 
 add-result : tie.Need-add-result
-add-result c = omega (arith, light c, small c)
+add-result c = omega (arith, fits (c .before .before))
 
 returns : tie.Need-returns
-returns c = head-greatest (c .before .before .pre .0 .well-formed) _ _ _ (c .before .longest .ensures .ahead) (c .head .ensures)
+unfolding asModel
+returns c g M =
+    let s = c .before .before .longest .ensures g M in
+    head-greatest (M .rows .accepted .well-formed) _ _ (c .before .before .longest .result .head) (s .longest .ahead) (s .head)
 
 pub largest-spec : {M : Type 1} → statement M
 largest-spec =
     tie.close
     (tie.spec
     longest-requires
-    head-requires
     mul-result
-    array-read-result
+    element-copy-out-result
     mul-result-2
-    array-read-result-2
+    element-copy-out-result-2
     add-result
     returns)

@@ -4,17 +4,16 @@ use Prim.Native.Nat.{ℕ, _-_, _≤_, max}
 use native.Mathlib.Numerals.{add-one}
 use native.Mathlib.Omega.{arith}
 use borrow.Author.Needs.{needs}
+use lib.ListN.{getD}
 use Rattle.model.specs.Places.{largest}
-use Rattle.model.specs.Bounds.{mostCores}
-use Rattle.graph.specs.Model.{asModel}
 use Rattle.bounds.proofs.volume.most_cores.Statement.{statement}
 use Rattle.bounds.proofs.volume.most_cores.Tie as tie
 
 abbrev Inv-loop : tie.InvT-loop
-Inv-loop g kinds most₀ s₀ most s = (s ≤ kinds) × (most ≡ largest (asModel g .cores) s)
+Inv-loop cores kinds most₀ s₀ most s = (s ≤ kinds) × (most ≡ largest (λ k. getD cores k 0) s)
 
 abbrev μ-loop : tie.MeasureT-loop
-μ-loop g kinds most₀ s₀ most s = kinds - s
+μ-loop cores kinds most₀ s₀ most s = kinds - s
 
 loop-holds : tie.Need-loop-holds Inv-loop μ-loop
 unfolding largest
@@ -33,16 +32,15 @@ loop-less : tie.Need-loop-less Inv-loop μ-loop
 loop-less c = search needs
 
 loop-again : tie.Need-loop-again Inv-loop μ-loop
-unfolding largest asModel
+unfolding largest
 loop-again c =
     let l = c .before .before .before .loop in
-    let f = asModel (c .before .before .before .before .args .t1) .cores in
+    let f : ℕ → ℕ = λ k. getD (c .before .before .before .before .args .cores .now) k 0 in
     (search needs, c .larger .ensures ∙ ap (λ (x : ℕ). max x (f (l .s))) (l .inv .1) ∙ ap (largest f) (sym (add-one (l .s))))
 
 returns : tie.Need-returns Inv-loop μ-loop
-unfolding mostCores largest asModel
 returns c =
-    let e : c .before .loop .s ≡ c .before .before .args .t1 .kinds = omega arith in
+    let e : c .before .loop .s ≡ c .before .before .args .kinds = omega arith in
     c .before .loop .inv .1 ∙ ap (largest _) e
 
 pub most-cores-spec : {M : Type 1} → statement M

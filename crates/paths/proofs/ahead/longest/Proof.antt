@@ -1,66 +1,47 @@
--- After r sweeps each sum is attained, and every path of at most r edges is covered.
-use mathlib.Core.Path.{_≡_}
-use Prim.Native.Nat.{_-_, _≤_}
+-- After r sweeps each vertex is known from which every path has fewer than r edges.
+use Prim.Native.Nat.{_-_, _≤_, _<_}
 use native.Mathlib.Omega.{arith}
-use lib.ListN.{replicate}
+use lib.Dec.{ltb}
 use borrow.Author.Needs.{needs}
-use Rattle.model.proofs.Bools.{not-is-true}
-use Rattle.graph.specs.Model.{asModel}
-use Rattle.paths.specs.Sweep.{Sums}
-use Rattle.paths.proofs.Sums.{Covers, sums-none, covers-none, covers-more, longest-swept, longest-settled}
+use borrow.Author.Tests.{ltb-true}
+use mathlib.Core.Bool.{not}
+use Rattle.model.proofs.Bools.{left-of}
+use Rattle.paths.proofs.Sums.{laid, Sweeping, sweeping-none, sweeping-more, sweeping-done}
 use Rattle.paths.proofs.ahead.longest.Statement.{statement}
 use Rattle.paths.proofs.ahead.longest.Tie as tie
 
 abbrev Inv-loop : tie.InvT-loop
-Inv-loop g weight n sums₀ r₀ sums r = (r ≤ n) × (Sums (asModel g) weight sums × Covers (asModel g) weight r sums)
+Inv-loop edge start n weight sums₀ known₀ last₀ all₀ r₀ sums known last all r = (r ≤ n) × Sweeping edge start n weight sums known last all r
 
 abbrev μ-loop : tie.MeasureT-loop
-μ-loop g weight n sums₀ r₀ sums r = n - r
+μ-loop edge start n weight sums₀ known₀ last₀ all₀ r₀ sums known last all r = n - r
 
 loop-holds : tie.Need-loop-holds Inv-loop μ-loop
-unfolding asModel
-loop-holds c =
-    let p = c .pre .0 in
-    (search needs, (sums-none (p .well-formed) (p .acyclic) (p .few-vertices) _, covers-none (asModel (c .args .g)) (c .args .weight) (replicate 128 0)))
+loop-holds c = (search needs, sweeping-none (c .pre .1))
+
+more : (c : tie.In-loop Inv-loop μ-loop) → c .before .loop .r < c .before .before .args .n
+more c =
+    let l = c .before .loop in
+    ltb-true (l .r) (c .before .before .args .n) (left-of (ltb (l .r) (c .before .before .args .n)) (not (l .all)) (c .loop-test .taken))
 
 sweep-requires : tie.Need-sweep-requires Inv-loop μ-loop
-sweep-requires c κs = let p = c .before .before .pre in (p .0, (p .1, c .before .loop .inv .1 .0))
-
-returns : tie.Need-returns Inv-loop μ-loop
-unfolding asModel
-returns c =
-    let p = c .before .before .before .before .before .pre .0 in
-    let s = c .before .before .sweep .ensures in
-    longest-settled (p .well-formed) (p .acyclic) (p .few-vertices) _ _ (c .before .before .before .before .loop .inv .1 .0) (rw (s .1 (not-is-true (c .before .before .sweep .result .changed) (c .if1 .taken))) at (s .0))
+sweep-requires c κs =
+    let p = c .before .before .before .before .before .pre .1 in
+    (omega (arith, more (c .before .before .before), p .rows .accepted .few-vertices, p .vertices), (laid (p .rows) (p .vertices) (p .light), c .before .before .before .before .loop .inv .1 .known))
 
 add-r : tie.Need-add-r Inv-loop μ-loop
-add-r c = search needs
+add-r c = omega (arith, more (c .before .before .before .before))
 
 loop-less : tie.Need-loop-less Inv-loop μ-loop
-loop-less c = search needs
+loop-less c = omega (arith, more (c .before .before .before .before))
 
 loop-again : tie.Need-loop-again Inv-loop μ-loop
-loop-again c =
-    let s = c .before .before .before .sweep .ensures .0 in
-    (search needs, (s .sums, covers-more (c .before .before .before .before .before .before .args .weight) _ _ _ s (c .before .before .before .before .before .loop .inv .1 .1)))
+loop-again c = (omega (arith, more (c .before .before .before .before)), sweeping-more (c .before .before .before .before .before .loop .inv .1) (c .sweep .ensures))
 
-returns-2 : tie.Need-returns-2 Inv-loop μ-loop
-unfolding asModel
-returns-2 c =
-    let p = c .before .before .pre .0 in
-    let e : c .before .loop .r ≡ c .before .before .args .g .n = omega arith in
-    longest-swept (p .well-formed) (p .acyclic) (p .few-vertices) _ _ (c .before .loop .inv .1 .0) (rw e at (c .before .loop .inv .1 .1))
+returns : tie.Need-returns Inv-loop μ-loop
+returns c = sweeping-done (c .before .loop .inv .1) (c .loop-test .left) (c .before .loop .inv .0)
 
 pub longest-spec : {M : Type 1} → statement M
 longest-spec =
     tie.close
-    (tie.spec
-    Inv-loop
-    μ-loop
-    loop-holds
-    sweep-requires
-    returns
-    add-r
-    loop-less
-    loop-again
-    returns-2)
+    (tie.spec Inv-loop μ-loop loop-holds sweep-requires add-r loop-less loop-again returns)

@@ -1,95 +1,61 @@
--- The path so far, and the edge that goes on from its last vertex.
-use mathlib.Core.Path.{ap, _∙_}
-use mathlib.Core.List.{List, _∷_, _++_}
-use Prim.Native.Nat.{ℕ, _+_, _-_, _≤_, _<_}
+-- The path so far, and the vertex that is next.
+use Prim.Native.Nat.{_-_, _<_}
 use native.Mathlib.Omega.{arith}
 use borrow.Author.Needs.{needs}
-use denote.Ref.{now}
-use lib.ListN.{length, length-set}
-use lib.Seq.{drop-set-lt}
-use Rattle.graph.specs.Model.{to}
+use Rattle.graph.specs.Model.{asModel}
+use Rattle.graph.specs.declared.Graph.{Graph}
 use Rattle.paths.specs.Ahead.{weigh}
-use Rattle.paths.proofs.Tracing.{Tracing, tracing-none, tracing-room, tracing-more, tracing-done}
+use Rattle.paths.specs.Trace.{Traceable}
+use Rattle.paths.proofs.Tracing.{Tracing, trace-visitable, tracing-none, tracing-room, tracing-more, tracing-done}
 use Rattle.paths.proofs.trace.trace.Statement.{statement}
 use Rattle.paths.proofs.trace.trace.Tie as tie
 
 abbrev Inv-loop : tie.InvT-loop
-Inv-loop weight sums head out₀ g edges count₀ i₀ out count i = (g .n ≤ length out₀) × Tracing g (weigh weight) (weigh sums) head out₀ out count i
+Inv-loop edge start weight sums head out₀ count₀ v₀ out count v =
+    (g : Graph) → Traceable g edge start weight sums head out₀ → Tracing (asModel g) (weigh weight) (weigh sums) head out₀ out count v
 
 abbrev μ-loop : tie.MeasureT-loop
-μ-loop weight sums head out₀ g edges count₀ i₀ out count i = g .n - count
-
-cast-out : tie.Need-cast-out Inv-loop μ-loop
-cast-out c = omega (arith, c .before .pre .0 .few-vertices)
-
-slice-write-out : tie.Need-slice-write-out Inv-loop μ-loop
-slice-write-out c = search needs
-
-onward-requires : tie.Need-onward-requires Inv-loop μ-loop
-onward-requires c κs = let p = c .before .pre in (p .0, (p .1 .0, (p .1 .1 .0, p .1 .1 .1 .0)))
+μ-loop edge start weight sums head out₀ count₀ v₀ out count v = 128 - count
 
 loop-holds : tie.Need-loop-holds Inv-loop μ-loop
-loop-holds c =
-    let s = c .before .before in
-    let l : 0 < length (now (s .args .out)) = omega (arith, s .pre .0 .some-vertex) in
-    (omega (arith, length-set (now (s .args .out)) 0 (s .args .head)), tracing-none _ _ _ _ _ (now (s .args .out)) l (s .pre .1 .1 .1 .0) (c .onward .ensures))
+loop-holds c g T = tracing-none T
 
-mul-to : tie.Need-mul-to Inv-loop μ-loop
-mul-to c = search needs
+cast-out : tie.Need-cast-out Inv-loop μ-loop
+cast-out c = search needs
 
-element-copy-out-to : tie.Need-element-copy-out-to Inv-loop μ-loop
-element-copy-out-to c = omega (arith, c .before .before .before .before .pre .0 .few-edges)
+-- the path so far, of the graph that there is
+so-far : (c : tie.In-loop Inv-loop μ-loop)
+    → Tracing (asModel (c .before .before .before .pre .0)) (weigh (c .before .before .before .args .weight .now)) (weigh (c .before .before .before .args .sums .now)) (c .before .before .before .args .head) (c .before .before .before .args .out .now) (c .before .loop .out) (c .before .loop .count) (c .before .loop .v)
+so-far c = let p = c .before .before .before .pre in c .before .loop .inv (p .0) (p .1)
 
-to-requires : tie.Need-to-requires Inv-loop μ-loop
-to-requires c κs = search needs
+room : (c : tie.In-loop Inv-loop μ-loop) → c .before .loop .count < c .before .before .before .pre .0 .n
+room c = tracing-room (c .before .before .before .pre .1) (c .before .loop .out) (c .before .loop .count) (c .before .loop .v) (so-far c) (c .loop-test .taken)
 
-known : (c : tie.After-to Inv-loop μ-loop) → c .to .result < c .before .before .before .before .before .before .args .t1 .n
-unfolding to
-known c = omega (arith, c .to .ensures, c .before .before .before .before .before .before .pre .0 .to-known (c .before .before .before .loop .i) (omega arith))
-
-room : (c : tie.After-to Inv-loop μ-loop) → c .before .before .before .loop .count < c .before .before .before .before .before .before .args .t1 .n
-room c =
-    let s = c .before .before .before .before .before .before in
-    let l = c .before .before .before .loop in
-    tracing-room (s .pre .0) _ _ (s .pre .1 .1 .0) (s .args .head) _ (l .out) (l .count) (l .i) (l .inv .1) (omega arith)
-
-cast-out-2 : tie.Need-cast-out-2 Inv-loop μ-loop
-cast-out-2 c = omega (arith, known c, c .before .before .before .before .before .before .pre .0 .few-vertices)
-
-slice-write-out-2 : tie.Need-slice-write-out-2 Inv-loop μ-loop
-slice-write-out-2 c = omega (arith, room c, c .before .before .before .loop .inv .0, c .before .before .before .loop .inv .1 .size)
+slice-write-out : tie.Need-slice-write-out Inv-loop μ-loop
+slice-write-out c = omega (arith, room c, so-far c .size, c .before .before .before .pre .1 .room)
 
 add-count : tie.Need-add-count Inv-loop μ-loop
-add-count c = omega (arith, room c, c .before .before .before .before .before .before .pre .0 .few-vertices)
+add-count c = omega (arith, room c, c .before .before .before .pre .1 .rows .accepted .few-vertices)
 
-onward-requires-2 : tie.Need-onward-requires-2 Inv-loop μ-loop
-onward-requires-2 c κs = let p = c .before .before .before .before .before .before .pre in (p .0, (p .1 .0, (p .1 .1 .0, known c)))
+onward-requires : tie.Need-onward-requires Inv-loop μ-loop
+unfolding asModel
+onward-requires c κs = trace-visitable (c .before .before .before .pre .1) (c .before .loop .v) (so-far c .known (c .loop-test .taken))
 
 loop-less : tie.Need-loop-less Inv-loop μ-loop
-loop-less c = omega (arith, room (c .before))
+loop-less c = omega (arith, room (c .before), c .before .before .before .before .pre .1 .rows .accepted .few-vertices)
 
 loop-again : tie.Need-loop-again Inv-loop μ-loop
-unfolding to
-loop-again c =
-    let s = c .before .before .before .before .before .before .before in
-    let l = c .before .before .before .before .loop in
-    (l .inv .0, tracing-more (s .pre .0) _ _ (s .pre .1 .1 .0) (s .args .head) _ (l .out) (l .count) (l .i) (l .inv .1) (c .before .to .result) (c .onward2 .result) (omega arith) (c .before .to .ensures) (l .inv .0) (c .onward2 .ensures))
+loop-again c g T =
+    let l = c .before .before .loop in
+    tracing-more T (l .out) (l .count) (l .v) (l .inv g T) (c .onward .result) (c .before .loop-test .taken) (c .onward .ensures)
 
 same-length : tie.Need-same-length Inv-loop μ-loop
-same-length c =
-    let s = c .before .before .before .before in
-    c .before .loop .inv .1 .size ∙ length-set (now (s .args .out)) 0 (s .args .head)
+same-length c = let p = c .before .before .before .pre in c .before .loop .inv (p .0) (p .1) .size
 
 returns : tie.Need-returns Inv-loop μ-loop
-returns c =
-    let s = c .before .before .before .before in
-    let T = c .before .loop .inv .1 in
-    record {
-      rest = T .rest;
-      trace = tracing-done (s .pre .0) _ _ (s .pre .1 .1 .0) (s .args .head) _ (c .before .loop .out) (c .before .loop .count) (c .before .loop .i) T (omega arith);
-      count = T .count;
-      held = T .held ∙ ap (λ (d : List ℕ). (s .args .head ∷ T .rest) ++ d) (drop-set-lt (c .before .loop .count) (now (s .args .out)) 0 (s .args .head) (omega (arith, T .count)));
-    }
+returns c g T =
+    let l = c .before .loop in
+    tracing-done T (l .out) (l .count) (l .v) (l .inv g T) (c .loop-test .left)
 
 pub trace-spec : {M : Type 1} → statement M
 trace-spec =
@@ -97,17 +63,11 @@ trace-spec =
     (tie.spec
     Inv-loop
     μ-loop
+    loop-holds
     cast-out
     slice-write-out
-    onward-requires
-    loop-holds
-    mul-to
-    element-copy-out-to
-    to-requires
-    cast-out-2
-    slice-write-out-2
     add-count
-    onward-requires-2
+    onward-requires
     loop-less
     loop-again
     same-length
