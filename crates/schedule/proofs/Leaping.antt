@@ -26,9 +26,11 @@ use Rattle.graph.specs.Model.{asModel, AcceptedGraph}
 use Rattle.vset.specs.Members.{isIn}
 use Rattle.tick.specs.declared.Run.{Run}
 use Rattle.tick.specs.Run.{MOST, leftOf, stateOf, recordOf}
-use Rattle.tick.specs.Ready.{someLeft, isBehind}
+use Rattle.tick.specs.Ready.{someLeft}
+use Rattle.tick.specs.Waiting.{Settled}
 use Rattle.tick.specs.Choice.{fairOf}
 use Rattle.tick.proofs.ByKind.{fair-sound, fair-complete}
+use Rattle.tick.proofs.Counters.{settled-behind}
 use Rattle.schedule.specs.Whole.{doneAt, finishAt, finishOf}
 use Rattle.schedule.proofs.Moved.{moved-state, less-left, spend}
 use Rattle.schedule.proofs.OneLeap.{unfinished-is, over-all, one-runs}
@@ -207,7 +209,7 @@ module _ (g : Graph) (A : AcceptedGraph g) where
     in-time-start = omega (arith, fresh .at-start, A .few-vertices, sum-most (leftOf r) 1000000 (g .n) (λ v l. omega (arith, fresh .short v l, A .short v l)))
 
     module _ (w : Work) (is-run : w .run ≡ r) (is-busy : (v : ℕ) → isIn (w .busy) v ≡ someLeft (r .left) v)
-        (is-behind : (v : ℕ) → isIn (w .behind) v ≡ isBehind G (isIn (w .busy)) v) (is-table : w .finishes ≡ replicate 128 0) (long : length (w .run .left) ≡ 128) where
+        (settled : Settled (g .edge) (g .edges) (w .waiting) (isIn (w .busy)) (w .behind)) (is-table : w .finishes ≡ replicate 128 0) (long : length (w .run .left) ≡ 128) where
       sound-start : Sound g w
       sound-start = record {
         agrees = rw is-run (fresh .agrees);
@@ -215,7 +217,8 @@ module _ (g : Graph) (A : AcceptedGraph g) where
         fair = rw is-run fair-start;
         in-time = rw is-run in-time-start;
         is-busy = rw is-run is-busy;
-        is-behind = is-behind;
+        is-behind = settled-behind g A (w .waiting) (isIn (w .busy)) (w .behind) settled;
+        settled = settled;
         long-left = long;
         long-finishes = ap (λ (l : List ℕ). length l) is-table ∙ length-replicate {A = ℕ} 128 0;
       }

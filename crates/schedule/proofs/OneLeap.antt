@@ -1,8 +1,8 @@
 -- One leap from a sound run: what runs, for how long, and that the run is sound again.
-use mathlib.Core.Path.{_≡_, refl, sym, ap, _∙_, subst, fun-ext}
+use mathlib.Core.Path.{_≡_, refl, sym, ap, ap₂, _∙_, subst, fun-ext}
 use mathlib.Core.Logic.{_⊎_, inl, inr, ⊎-elim}
 use mathlib.Core.List.{List}
-use mathlib.Core.Bool.{Bool, true, false, not, _&&_, _||_, and-true}
+use mathlib.Core.Bool.{Bool, true, false, not, _&&_, _||_, or-false, and-true, and-false}
 use Prim.Native.Nat.{ℕ, _+_, _-_, _≤_, _<_, zero-le}
 use native.Mathlib.Omega.{arith}
 use lib.Dec.{ltb}
@@ -11,7 +11,7 @@ use borrow.Author.Tests.{lt-ltb, le-ltb, ltb-true}
 use Rattle.model.specs.Places.{pick, any, every, count, sum, table}
 use Rattle.model.specs.Graph as model
 use Rattle.model.specs.ListSchedule.{finished, chosen, leap, Fair}
-use Rattle.model.proofs.Bools.{cases, le-or-lt}
+use Rattle.model.proofs.Bools.{cases, clash, le-or-lt, left-of, right-of, not-is-true}
 use Rattle.model.proofs.Places.{any-intro, some-counted, count-less}
 use Rattle.model.proofs.Sums.{sum-term}
 use Rattle.model.proofs.Tables.{table-length}
@@ -23,12 +23,14 @@ use Rattle.vset.specs.declared.Vset.{Vset}
 use Rattle.vset.specs.Members.{isIn, Members}
 use Rattle.tick.specs.declared.Run.{Run}
 use Rattle.tick.specs.Run.{MOST, leftOf, stateOf, recordOf, over}
-use Rattle.tick.specs.Ready.{someLeft, isBehind}
+use Rattle.tick.specs.Ready.{someLeft}
+use Rattle.tick.specs.Waiting.{entering, Unsettled, Settled}
 use Rattle.tick.specs.Remains.{lowered}
 use Rattle.tick.specs.Choice.{OfKinds, chosenBy}
 use Rattle.tick.proofs.Records.{moved-on, after-leap}
 use Rattle.tick.proofs.ByKind.{fair-sound, fair-complete}
-use Rattle.tick.proofs.Ticking.{over-is, finished-by, on-is, on-runs}
+use Rattle.tick.proofs.Ticking.{over-is, finished-by, on-is, on-able, on-runs}
+use Rattle.tick.proofs.Counters.{settled-behind}
 use Rattle.schedule.proofs.Moved.{moved-state, moved-left, spend}
 use Rattle.schedule.specs.Leaps.{Work, LeastOf, Stamped, unfinished, Sound, Leapt}
 
@@ -76,6 +78,9 @@ module _ (g : Graph) (A : AcceptedGraph g) where
     on-has : (v : ℕ) → on v ≡ true → (v < g .n) × (1 ≤ leftOf (w .run) v)
     on-has = on-runs g A (w .run) (sound .past) (isIn (w .busy)) (sound .is-busy) (isIn (w .behind)) (sound .is-behind) able is-able words W on is-on
 
+    able-on : (v : ℕ) → on v ≡ true → able v ≡ true
+    able-on = on-able g A (w .run) (sound .past) (isIn (w .busy)) (sound .is-busy) (isIn (w .behind)) (sound .is-behind) able is-able words W on is-on
+
     pub some-on : any on 128 ≡ true
     some-on =
         let u = one-runs w sound some in
@@ -92,11 +97,9 @@ module _ (g : Graph) (A : AcceptedGraph g) where
       enough : (v : ℕ) → chosen G (stateOf (w .run)) v ≡ true → d ≤ leftOf (w .run) v
       enough v t = within v (on-chosen v ∙ t) .1
 
-      module _ (left : List ℕ) (ran over busy hind new : Vset) (fins : List ℕ) (is-left : left ≡ table (lowered (w .run .left) on d) 128)
+      module _ (left : List ℕ) (ran over busy : Vset) (is-left : left ≡ table (lowered (w .run .left) on d) 128)
           (is-ran : Members ran (λ v. on v && someLeft left v)) (is-over : (v : ℕ) → isIn over v ≡ on v && not (isIn ran v))
-          (busy-is : (v : ℕ) → isIn busy v ≡ isIn (w .busy) v && not (isIn over v)) (is-hind : (v : ℕ) → isIn hind v ≡ isBehind G (isIn busy) v)
-          (is-new : (v : ℕ) → isIn new v ≡ (isIn (w .busy) v || isIn (w .behind) v) && not (isIn busy v || isIn hind v))
-          (stamps : Stamped (w .finishes) (isIn new) (w .run .instant + d) fins) where
+          (busy-is : (v : ℕ) → isIn busy v ≡ isIn (w .busy) v && not (isIn over v)) where
         abbrev next : Run
         next = record { n = w .run .n; instant = w .run .instant + d; left = left; ran = ran }
 
@@ -142,23 +145,53 @@ module _ (g : Graph) (A : AcceptedGraph g) where
             let u = one-runs w sound some in
             spend g A (w .run) (sound .agrees) (sound .past) d next moved (u .0) (u .1) (u .2) (enough (u .0) (u .2))
 
-        pub leapt : Leapt g w (record { run = next; busy = busy; behind = hind; finishes = fins })
-        unfolding unfinished recordOf stateOf
-        leapt = record {
-          d = d;
-          some = omega (arith, on-has (least .who) (least .member) .1, least .value);
-          enough = enough;
-          moved = moved;
-          stamps = subst (λ (p : ℕ → Bool). Stamped (w .finishes) p (w .run .instant + d) fins) (fun-ext is-new) stamps;
-          fewer = fewer;
-          sound = record {
-            agrees = sound .agrees;
-            past = λ v l. omega (arith, left-after v, sound .past v l);
-            fair = fair-complete g next still-fair;
-            in-time = omega (arith, fewer-ticks, sound .in-time);
-            is-busy = is-busy;
-            is-behind = is-hind;
-            long-left = ap (λ (l : List ℕ). length l) is-left ∙ table-length (lowered (w .run .left) on d) 128;
-            long-finishes = stamps .long;
-          };
+        -- those that have run out of ticks are finished, and have their successors to tell
+        pub unsettled : Unsettled (g .edge) (g .edges) (w .waiting) (isIn busy) (isIn (w .behind)) (isIn over)
+        unsettled = record {
+          long = sound .settled .long;
+          counts = λ v h. sound .settled .counts v h ∙ ap (λ (p : ℕ → Bool). entering (g .edge) p (g .edges) v) (fun-ext same);
+          stand = sound .settled .stand .are;
+          apart = λ v t. ap₂ _||_ (busy-is v ∙ ap (λ (b : Bool). isIn (w .busy) v && not b) t ∙ and-false (isIn (w .busy) v))
+              (not-is-true (isIn (w .behind) v) (right-of (isIn (w .busy) v) (not (isIn (w .behind) v)) (sym (is-able v) ∙ able-on v (ran-on v t))));
         }
+          where
+            ran-on : (v : ℕ) → isIn over v ≡ true → on v ≡ true
+            ran-on v t = left-of (on v) (not (isIn ran v)) (sym (is-over v) ∙ t)
+
+            moved-over : (b h o : Bool) → (o ≡ true → b ≡ true) → b || h ≡ ((b && not o) || h) || o
+            moved-over true true true f = refl
+            moved-over true true false f = refl
+            moved-over true false true f = refl
+            moved-over true false false f = refl
+            moved-over false h true f = absurd (clash (f refl) refl)
+            moved-over false h false f = sym (or-false h)
+
+            same : (u : ℕ) → isIn (w .busy) u || isIn (w .behind) u ≡ (isIn busy u || isIn (w .behind) u) || isIn over u
+            same u =
+                moved-over (isIn (w .busy) u) (isIn (w .behind) u) (isIn over u) (λ t. left-of (isIn (w .busy) u) (not (isIn (w .behind) u)) (sym (is-able u) ∙ able-on u (ran-on u t)))
+                ∙ ap (λ (b : Bool). (b || isIn (w .behind) u) || isIn over u) (sym (busy-is u))
+
+        module _ (hind new : Vset) (wait fins : List ℕ) (settled : Settled (g .edge) (g .edges) wait (isIn busy) hind)
+            (is-new : (v : ℕ) → isIn new v ≡ (isIn (w .busy) v || isIn (w .behind) v) && not (isIn busy v || isIn hind v))
+            (stamps : Stamped (w .finishes) (isIn new) (w .run .instant + d) fins) where
+          pub leapt : Leapt g w (record { run = next; busy = busy; behind = hind; waiting = wait; finishes = fins })
+          unfolding unfinished recordOf stateOf
+          leapt = record {
+            d = d;
+            some = omega (arith, on-has (least .who) (least .member) .1, least .value);
+            enough = enough;
+            moved = moved;
+            stamps = subst (λ (p : ℕ → Bool). Stamped (w .finishes) p (w .run .instant + d) fins) (fun-ext is-new) stamps;
+            fewer = fewer;
+            sound = record {
+              agrees = sound .agrees;
+              past = λ v l. omega (arith, left-after v, sound .past v l);
+              fair = fair-complete g next still-fair;
+              in-time = omega (arith, fewer-ticks, sound .in-time);
+              is-busy = is-busy;
+              is-behind = settled-behind g A wait (isIn busy) hind settled;
+              settled = settled;
+              long-left = ap (λ (l : List ℕ). length l) is-left ∙ table-length (lowered (w .run .left) on d) 128;
+              long-finishes = stamps .long;
+            };
+          }

@@ -1,7 +1,9 @@
 -- A whole run between two leaps.
 --
---   Work                  the run: its record, who has ticks left, who stands behind them, the finish instants
---   workOf g m left fins  the same, from what the code keeps of it
+--   Work                  the run: its record, who has ticks left, who stands behind them, the numbers of unfinished predecessors,
+--                         and the finish instants
+--   workOf g m left wait fins    the same, from what the code keeps of it
+--   Lists g cores words edge starts    the lists that a leap goes by are those of the graph
 --   LeastOf f p r         r is the least value of f over the places of p
 --   stamped l p t v       t for a place of p, else what stands in l
 --   Stamped l p t new     the list `new` has that at each place
@@ -16,7 +18,7 @@ use mathlib.Core.Bool.{Bool, true, false, not, _&&_, _||_}
 use mathlib.Core.List.{List}
 use Prim.Native.Nat.{ℕ, _+_, _≤_, _<_}
 use lib.ListN.{getD, length}
-use Rattle.model.specs.Places.{pick, count, every, sum}
+use Rattle.model.specs.Places.{pick, count, every, sum, table}
 use Rattle.model.specs.ListSchedule.{begin, chosen, leap, steps}
 use Rattle.graph.specs.Model.{asModel}
 use Rattle.graph.specs.declared.Graph.{Graph}
@@ -25,7 +27,9 @@ use Rattle.vset.specs.Members.{isIn}
 use Rattle.tick.specs.declared.Run.{Run}
 use Rattle.tick.specs.Run.{MOST, leftOf, stateOf, recordOf}
 use Rattle.tick.specs.Ready.{someLeft, isBehind}
-use Rattle.tick.specs.Choice.{fairOf}
+use Rattle.tick.specs.Choice.{OfKinds, fairOf}
+use Rattle.tick.specs.Waiting.{Settled}
+use Rattle.starts.specs.Starts.{startOf}
 use Rattle.schedule.specs.Whole.{doneAt, finishAt, finishOf}
 use Rattle.schedule.specs.declared.leaps.Moment.{Moment}
 use Rattle.schedule.specs.declared.leaps.Ended.{Ended}
@@ -34,11 +38,18 @@ pub record Work : Type 0 where
   pub run : Run
   pub busy : Vset
   pub behind : Vset
+  pub waiting : List ℕ
   pub finishes : List ℕ
 
-abbrev pub workOf : Graph → Moment → List ℕ → List ℕ → Work
-workOf g m left finishes =
-    record { run = record { n = g .n; instant = m .instant; left = left; ran = m .ran }; busy = m .busy; behind = m .behind; finishes = finishes }
+abbrev pub workOf : Graph → Moment → List ℕ → List ℕ → List ℕ → Work
+workOf g m left waiting finishes =
+    record { run = record { n = g .n; instant = m .instant; left = left; ran = m .ran }; busy = m .busy; behind = m .behind; waiting = waiting; finishes = finishes }
+
+pub record Lists (g : Graph) (cores words edge starts : List ℕ) : Type 0 where
+  pub cores-are : cores ≡ g .cores
+  pub words-are : OfKinds words (g .kind) (g .n)
+  pub edges-are : edge ≡ g .edge
+  pub starts-are : starts ≡ table (startOf g) 129
 
 pub record LeastOf (f : ℕ → ℕ) (p : ℕ → Bool) (r : ℕ) : Type 0 where
   pub low : (v : ℕ) → p v ≡ true → r ≤ f v
@@ -63,6 +74,7 @@ pub record Sound (g : Graph) (w : Work) : Type 0 where
   pub in-time : w .run .instant + sum (leftOf (w .run)) (g .n) ≤ MOST
   pub is-busy : (v : ℕ) → isIn (w .busy) v ≡ someLeft (w .run .left) v
   pub is-behind : (v : ℕ) → isIn (w .behind) v ≡ isBehind (asModel g) (isIn (w .busy)) v
+  pub settled : Settled (g .edge) (g .edges) (w .waiting) (isIn (w .busy)) (w .behind)
   pub long-left : length (w .run .left) ≡ 128
   pub long-finishes : length (w .finishes) ≡ 128
 

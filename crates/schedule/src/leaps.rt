@@ -3,21 +3,20 @@
 ghost use mathlib.Core.Path.{_≡_};
 ghost use mathlib.Core.Bool.{true};
 ghost use Prim.Native.Nat.{_<_, min};
-ghost use lib.ListN.{length, replicate};
+ghost use lib.ListN.{length};
 ghost use Rattle.model.specs.Places.{any, count};
 ghost use Rattle.graph.specs.Model.{AcceptedGraph};
 ghost use Rattle.vset.specs.Members.{isIn};
 ghost use Rattle.tick.specs.Run.{leftOf};
 ghost use Rattle.tick.specs.Remains.{place};
-ghost use Rattle.tick.specs.Choice.{OfKinds};
-ghost use Rattle.schedule.specs.Leaps.{LeastOf, Stamped, workOf, Sound, Leapt, Fresh, Kept, Ran};
+ghost use Rattle.schedule.specs.Leaps.{LeastOf, Stamped, workOf, Lists, Sound, Leapt, Fresh, Ran};
 use graph::Graph;
 use tick::Run;
 use vset::Vset;
 
 // A run between two leaps: the instant, the vertices that ran up to it and have ticks left, all that have ticks left, and those
-// that stand behind them; an unfinished vertex is in either of the last two. Two tables go with it, and a leap changes them where
-// they stand: what is left of each vertex, and the finish instants of those that are finished.
+// that stand behind them; an unfinished vertex is in either of the last two. Three tables go with it, and a leap changes them where
+// they stand: what is left of each vertex, how many unfinished predecessors it waits for, and the finish instants.
 pub struct Moment {
     pub instant: u64,
     pub ran: Vset,
@@ -66,20 +65,23 @@ fn stamp(finishes: &mut [u32; 128], new: Vset, instant: u32)
     }
 }
 
-// As many ticks at once as the vertex that runs with the fewest left has.
+// As many ticks at once as the vertex that runs with the fewest left has. Those that have none left then are finished.
 fn leap(
     m: Moment,
     g: Graph,
     cores: &[u8; 10],
     words: &[u64; 20],
+    edge: &[u16; 1024],
+    starts: &[u16; 129],
     left: &mut [u32; 128],
+    waiting: &mut [u8; 128],
     finishes: &mut [u32; 128],
 ) -> Moment
     requires { ⌜ AcceptedGraph g ⌝ }
-    requires { ⌜ (now cores ≡ g .cores) × OfKinds (now words) (g .kind) (g .n) ⌝ }
-    requires { ⌜ Sound g (workOf g m (now left) (now finishes)) ⌝ }
+    requires { ⌜ Lists g (now cores) (now words) (now edge) (now starts) ⌝ }
+    requires { ⌜ Sound g (workOf g m (now left) (now waiting) (now finishes)) ⌝ }
     requires { ⌜ 0 < count (isIn (m .busy)) 128 ⌝ }
-    ensures { λ r. ⌜ Leapt g (workOf g m (now (left .entry)) (now (finishes .entry))) (workOf g r (now (left .exit)) (now (finishes .exit))) ⌝ }
+    ensures { λ r. ⌜ Leapt g (workOf g m (now (left .entry)) (now (waiting .entry)) (now (finishes .entry))) (workOf g r (now (left .exit)) (now (waiting .exit)) (now (finishes .exit))) ⌝ }
 {
     let was_busy = m.busy;
     let was_behind = m.behind;
@@ -87,8 +89,9 @@ fn leap(
     let on = tick::choice::chosen(g.kinds, cores, words, able, m.ran);
     let d = least(left, on);
     let ran = tick::remains::lower(left, on, d);
-    let busy = vset::minus(was_busy, vset::minus(on, ran));
-    let behind = tick::ready::behind(g, busy);
+    let done = vset::minus(on, ran);
+    let busy = vset::minus(was_busy, done);
+    let behind = tick::waiting::settle(edge, starts, waiting, busy, was_behind, done);
     let new = vset::minus(
         vset::either(was_busy, was_behind),
         vset::either(busy, behind),
@@ -103,25 +106,8 @@ fn leap(
     }
 }
 
-// Instant 0. What is finished there has its finish instant already: the table begins with zeros.
-fn at_start(g: Graph, run: Run) -> Moment
-    requires { ⌜ AcceptedGraph g ⌝ }
-    requires { ⌜ Fresh g run ⌝ }
-    ensures { λ r. ⌜ Kept g (leftOf run) (workOf g r (run .left) (replicate 128 0)) ⌝ }
-{
-    let left = run.left;
-    let ran = run.ran;
-    let busy = tick::ready::busy(left);
-    let behind = tick::ready::behind(g, busy);
-    Moment {
-        instant: run.instant,
-        ran,
-        busy,
-        behind,
-    }
-}
-
-// Leap after leap until no vertex has ticks left: at most N of them.
+// Leap after leap until no vertex has ticks left: at most N of them. What is finished at instant 0 has its finish instant already: the
+// table begins with zeros.
 pub fn play(g: Graph, run: Run) -> Ended
     requires { ⌜ AcceptedGraph g ⌝ }
     requires { ⌜ Fresh g run ⌝ }
@@ -129,14 +115,34 @@ pub fn play(g: Graph, run: Run) -> Ended
 {
     let kind = g.kind;
     let cores = g.cores;
+    let edge = g.edge;
     let words = tick::choice::of_kinds(&kind, g.n);
+    let starts = starts::starts(g);
     let mut left = run.left;
+    let busy = tick::ready::busy(left);
+    let begun = tick::waiting::begun(&edge, &starts, g.n, busy);
+    let behind = begun.behind;
+    let mut waiting = begun.waiting;
     let mut finishes = [0u32; 128];
-    let mut m = at_start(g, run);
-    let mut many = vset::size(m.busy);
-    while 0 < many {
-        m = leap(m, g, &cores, &words, &mut left, &mut finishes);
-        many = vset::size(m.busy);
+    let ran = run.ran;
+    let mut m = Moment {
+        instant: run.instant,
+        ran,
+        busy,
+        behind,
+    };
+    while !vset::is_empty(m.busy) {
+        m = leap(
+            m,
+            g,
+            &cores,
+            &words,
+            &edge,
+            &starts,
+            &mut left,
+            &mut waiting,
+            &mut finishes,
+        );
     }
     Ended {
         instant: m.instant,

@@ -60,13 +60,18 @@ module _ (g : Graph) (A : AcceptedGraph g) (r : Run) (past : (v : ℕ) → g .n 
         unfolding stateOf
         on-is v = is-on v ∙ by-words g A words W able (isIn (r .ran)) able-past v ∙ chosen-is g A (stateOf r) past able able-is v
 
-        -- who runs is a vertex of the graph and has a tick left
+        is-ready : (v : ℕ) → on v ≡ true → ready (asModel g) (leftOf r) v ≡ true
+        unfolding stateOf
+        is-ready v t = chosen-ready (asModel g) (stateOf r) v (sym (on-is v) ∙ t)
+
+        -- who runs is able to
+        pub on-able : (v : ℕ) → on v ≡ true → able v ≡ true
+        on-able v t = able-is v ∙ is-ready v t
+
+        -- it is a vertex of the graph and has a tick left
         pub on-runs : (v : ℕ) → on v ≡ true → (v < g .n) × (1 ≤ leftOf r v)
-        unfolding stateOf someLeft leftOf asModel
+        unfolding someLeft leftOf asModel
         on-runs v t = (
-          ⊎-elim (λ (l : g .n ≤ v). absurd (clash is-ready (ready-past (A .well-formed) (leftOf r) v l (past v l)))) (λ l. l) (le-or-lt (g .n) v),
-          ltb-true 0 (getD (r .left) v 0) (sym (is-busy v) ∙ left-of (busy v) (not (hind v)) (sym (is-able v) ∙ (able-is v ∙ is-ready))),
+          ⊎-elim (λ (l : g .n ≤ v). absurd (clash (is-ready v t) (ready-past (A .well-formed) (leftOf r) v l (past v l)))) (λ l. l) (le-or-lt (g .n) v),
+          ltb-true 0 (getD (r .left) v 0) (sym (is-busy v) ∙ left-of (busy v) (not (hind v)) (sym (is-able v) ∙ on-able v t)),
         )
-          where
-            is-ready : ready (asModel g) (leftOf r) v ≡ true
-            is-ready = chosen-ready (asModel g) (stateOf r) v (sym (on-is v) ∙ t)

@@ -4,3 +4,4 @@ pub mod Suits
 pub mod Ready
 pub mod Choice
 pub mod Remains
+pub mod Waiting

@@ -14,6 +14,7 @@ use vset::Vset;
 pub mod choice;
 pub mod ready;
 pub mod remains;
+pub mod waiting;
 
 // N, the instant, the ticks remaining of each vertex, and which vertices ran in the last tick and are unfinished. Places from N on
 // are zero and unmarked.

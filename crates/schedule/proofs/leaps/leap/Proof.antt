@@ -7,9 +7,11 @@ use native.Mathlib.Omega.{arith}
 use Rattle.vset.specs.Members.{isIn}
 use Rattle.tick.specs.Run.{leftOf}
 use Rattle.tick.specs.Choice.{chosenBy}
+use Rattle.tick.specs.Waiting.{Settled}
 use Rattle.tick.proofs.ByKind.{few-go-on}
+use Rattle.tick.proofs.Counters.{all-edges, layout}
 use Rattle.schedule.specs.Leaps.{workOf}
-use Rattle.schedule.proofs.OneLeap.{some-on, at-most, leapt}
+use Rattle.schedule.proofs.OneLeap.{some-on, at-most, unsettled, leapt}
 use borrow.Author.Needs.{needs}
 use Rattle.schedule.proofs.leaps.leap.Statement.{statement}
 use Rattle.schedule.proofs.leaps.leap.Tie as tie
@@ -18,8 +20,8 @@ use Rattle.schedule.proofs.leaps.leap.Lts as lts
 use Rattle.schedule.proofs.leaps.least.Reads as least-reads
 use Rattle.schedule.proofs.leaps.stamp.Reads as stamp-reads
 use Rattle.tick.proofs.choice.chosen.Reads as chosen-reads
-use Rattle.tick.proofs.ready.behind.Reads as behind-reads
 use Rattle.tick.proofs.remains.lower.Reads as lower-reads
+use Rattle.tick.proofs.waiting.settle.Reads as settle-reads
 use Rattle.vset.proofs.either.Reads as either-reads
 use Rattle.vset.proofs.minus.Reads as minus-reads
 
@@ -27,30 +29,36 @@ use Rattle.vset.proofs.minus.Reads as minus-reads
 on-by : (c : tie.After-chosen) (v : ℕ) → isIn (c .chosen .result) v ≡ chosenBy (c .before .before .before .before .args .g .kinds) (c .before .before .before .before .args .g .cores) (now (c .before .before .before .before .args .words)) (isIn (c .before .minus .result)) (isIn (c .before .before .before .before .args .m .ran)) v
 on-by c v =
     let s = c .before .before .before .before in
-    c .chosen .ensures .are v ∙ ap (λ (l : List ℕ). chosenBy (s .args .g .kinds) l (now (s .args .words)) (isIn (c .before .minus .result)) (isIn (s .args .m .ran)) v) (s .pre .1 .0 .0)
+    c .chosen .ensures .are v ∙ ap (λ (l : List ℕ). chosenBy (s .args .g .kinds) l (now (s .args .words)) (isIn (c .before .minus .result)) (isIn (s .args .m .ran)) v) (s .pre .1 .0 .cores-are)
 
--- src/leaps.rt:79:9
+-- the numbers after it, by the graph's own edges
+settled-by : (c : tie.After-settle) → Settled (c .before .before .before .before .before .before .before .before .before .before .before .before .args .g .edge) (c .before .before .before .before .before .before .before .before .before .before .before .before .args .g .edges) (c .settle .last .1 .1 .0) (isIn (c .before .before .minus3 .result)) (c .settle .result)
+settled-by c =
+    let s = c .before .before .before .before .before .before .before .before .before .before .before .before in
+    rw (s .pre .1 .0 .edges-are, s .pre .1 .0 .starts-are, all-edges (s .args .g) (s .pre .0)) at (c .settle .ensures)
+
+-- src/leaps.rt:78:9
 minus-requires : tie.Need-minus-requires
 minus-requires c κs = search needs
 
--- src/leaps.rt:80:9
+-- src/leaps.rt:79:9
 chosen-requires : tie.Need-chosen-requires
 chosen-requires c κs =
     let s = c .before .before .before in
-    (s .pre .0 .few-kinds, rw (s .pre .1 .0 .0) (few-go-on (s .args .g) (s .pre .0) (now (s .args .words)) (s .pre .1 .0 .1) (isIn (c .minus .result)) (isIn (s .args .m .ran)) (s .pre .1 .1 .0 .fair)))
+    (s .pre .0 .few-kinds, rw (s .pre .1 .0 .cores-are) (few-go-on (s .args .g) (s .pre .0) (now (s .args .words)) (s .pre .1 .0 .words-are) (isIn (c .minus .result)) (isIn (s .args .m .ran)) (s .pre .1 .1 .0 .fair)))
 
--- src/leaps.rt:81:9
+-- src/leaps.rt:80:9
 least-requires : tie.Need-least-requires
 least-requires c κs =
     let o = c .before in
     let s = o .before .before .before .before in
-    some-on (s .args .g) (s .pre .0) (workOf (s .args .g) (s .args .m) (now (s .args .left)) (now (s .args .finishes))) (s .pre .1 .1 .0) (s .pre .1 .1 .1) (isIn (o .before .minus .result)) (isIn (o .chosen .result)) (o .before .minus .ensures .are) (now (s .args .words)) (s .pre .1 .0 .1) (on-by (o))
+    some-on (s .args .g) (s .pre .0) (workOf (s .args .g) (s .args .m) (now (s .args .left)) (now (s .args .waiting)) (now (s .args .finishes))) (s .pre .1 .1 .0) (s .pre .1 .1 .1) (isIn (o .before .minus .result)) (isIn (o .chosen .result)) (o .before .minus .ensures .are) (now (s .args .words)) (s .pre .1 .0 .words-are) (on-by o)
 
--- src/leaps.rt:82:9
+-- src/leaps.rt:81:9
 lower-requires : tie.Need-lower-requires
 lower-requires c κs = search needs
 
--- src/leaps.rt:83:38
+-- src/leaps.rt:82:9
 minus-requires-2 : tie.Need-minus-requires-2
 minus-requires-2 c κs = search needs
 
@@ -59,8 +67,12 @@ minus-requires-3 : tie.Need-minus-requires-3
 minus-requires-3 c κs = search needs
 
 -- src/leaps.rt:84:9
-behind-requires : tie.Need-behind-requires
-behind-requires c κs = search needs
+settle-requires : tie.Need-settle-requires
+unfolding leftOf
+settle-requires c κs =
+    let o = c .before .before .before .before .before .before .before in
+    let s = o .before .before .before .before in
+    rw (s .pre .1 .0 .edges-are, s .pre .1 .0 .starts-are, all-edges (s .args .g) (s .pre .0)) (layout (s .args .g) (s .pre .0), unsettled (s .args .g) (s .pre .0) (workOf (s .args .g) (s .args .m) (now (s .args .left)) (now (s .args .waiting)) (now (s .args .finishes))) (s .pre .1 .1 .0) (s .pre .1 .1 .1) (isIn (o .before .minus .result)) (isIn (o .chosen .result)) (o .before .minus .ensures .are) (now (s .args .words)) (s .pre .1 .0 .words-are) (on-by o) (c .before .before .before .before .before .least .result) (c .before .before .before .before .before .least .ensures) (c .before .before .before .lower .last .0) (c .before .before .before .lower .result) (c .before .before .minus2 .result) (c .before .minus3 .result) (c .before .before .before .lower .ensures .0) (c .before .before .before .lower .ensures .1) (c .before .before .minus2 .ensures .are) (c .before .minus3 .ensures .are))
 
 -- src/leaps.rt:85:27
 either-requires : tie.Need-either-requires
@@ -82,31 +94,30 @@ cast-instant c = search needs
 add-instant : tie.Need-add-instant
 unfolding leftOf
 add-instant c =
-    let o = c .before .before .before .before .before .before .before .before .before .before .before in
+    let o = c .before .before .before .before .before .before .before .before .before .before .before .before in
     let s = o .before .before .before .before in
-    omega (arith, at-most (s .args .g) (s .pre .0) (workOf (s .args .g) (s .args .m) (now (s .args .left)) (now (s .args .finishes))) (s .pre .1 .1 .0) (s .pre .1 .1 .1) (isIn (o .before .minus .result)) (isIn (o .chosen .result)) (o .before .minus .ensures .are) (now (s .args .words)) (s .pre .1 .0 .1) (on-by (o)) (c .before .before .before .before .before .before .before .before .before .least .result) (c .before .before .before .before .before .before .before .before .before .least .ensures))
+    omega (arith, at-most (s .args .g) (s .pre .0) (workOf (s .args .g) (s .args .m) (now (s .args .left)) (now (s .args .waiting)) (now (s .args .finishes))) (s .pre .1 .1 .0) (s .pre .1 .1 .1) (isIn (o .before .minus .result)) (isIn (o .chosen .result)) (o .before .minus .ensures .are) (now (s .args .words)) (s .pre .1 .0 .words-are) (on-by o) (c .before .before .before .before .before .before .before .before .before .before .least .result) (c .before .before .before .before .before .before .before .before .before .before .least .ensures))
 
 -- src/leaps.rt:87:26
 cast-stamp : tie.Need-cast-stamp
 unfolding leftOf
 cast-stamp c =
-    let o = c .before .before .before .before .before .before .before .before .before .before .before .before in
+    let o = c .before .before .before .before .before .before .before .before .before .before .before .before .before in
     let s = o .before .before .before .before in
-    omega (arith, at-most (s .args .g) (s .pre .0) (workOf (s .args .g) (s .args .m) (now (s .args .left)) (now (s .args .finishes))) (s .pre .1 .1 .0) (s .pre .1 .1 .1) (isIn (o .before .minus .result)) (isIn (o .chosen .result)) (o .before .minus .ensures .are) (now (s .args .words)) (s .pre .1 .0 .1) (on-by (o)) (c .before .before .before .before .before .before .before .before .before .before .least .result) (c .before .before .before .before .before .before .before .before .before .before .least .ensures))
+    omega (arith, at-most (s .args .g) (s .pre .0) (workOf (s .args .g) (s .args .m) (now (s .args .left)) (now (s .args .waiting)) (now (s .args .finishes))) (s .pre .1 .1 .0) (s .pre .1 .1 .1) (isIn (o .before .minus .result)) (isIn (o .chosen .result)) (o .before .minus .ensures .are) (now (s .args .words)) (s .pre .1 .0 .words-are) (on-by o) (c .before .before .before .before .before .before .before .before .before .before .before .least .result) (c .before .before .before .before .before .before .before .before .before .before .before .least .ensures))
 
 -- src/leaps.rt:87:5
 stamp-requires : tie.Need-stamp-requires
-stamp-requires c κs = c .before .before .before .before .before .before .before .before .before .before .before .before .before .before .before .before .pre .1 .1 .0 .long-finishes
+stamp-requires c κs = c .before .before .before .before .before .before .before .before .before .before .before .before .before .before .before .before .before .pre .1 .1 .0 .long-finishes
 
--- src/leaps.rt:70:1
+-- src/leaps.rt:69:1
 returns : tie.Need-returns
 unfolding leftOf
 returns c =
-    let o = c .before .before .before .before .before .before .before .before .before .before .before .before .before in
+    let o = c .before .before .before .before .before .before .before .before .before .before .before .before .before .before in
     let s = o .before .before .before .before in
-    leapt (s .args .g) (s .pre .0) (workOf (s .args .g) (s .args .m) (now (s .args .left)) (now (s .args .finishes))) (s .pre .1 .1 .0) (s .pre .1 .1 .1) (isIn (o .before .minus .result)) (isIn (o .chosen .result)) (o .before .minus .ensures .are) (now (s .args .words)) (s .pre .1 .0 .1) (on-by (o)) (c .before .before .before .before .before .before .before .before .before .before .before .least .result) (c .before .before .before .before .before .before .before .before .before .before .before .least .ensures)
-    (c .before .before .before .before .before .before .before .before .before .lower .last .0) (c .before .before .before .before .before .before .before .before .before .lower .result) (c .before .before .before .before .before .before .before .before .minus2 .result) (c .before .before .before .before .before .before .before .minus3 .result) (c .before .before .before .before .before .before .behind .result) (c .before .before .before .minus4 .result) (c .stamp .last .0)
-    (c .before .before .before .before .before .before .before .before .before .lower .ensures .0) (c .before .before .before .before .before .before .before .before .before .lower .ensures .1) (c .before .before .before .before .before .before .before .before .minus2 .ensures .are) (c .before .before .before .before .before .before .before .minus3 .ensures .are) (c .before .before .before .before .before .before .behind .ensures .are)
+    leapt (s .args .g) (s .pre .0) (workOf (s .args .g) (s .args .m) (now (s .args .left)) (now (s .args .waiting)) (now (s .args .finishes))) (s .pre .1 .1 .0) (s .pre .1 .1 .1) (isIn (o .before .minus .result)) (isIn (o .chosen .result)) (o .before .minus .ensures .are) (now (s .args .words)) (s .pre .1 .0 .words-are) (on-by o) (c .before .before .before .before .before .before .before .before .before .before .before .before .least .result) (c .before .before .before .before .before .before .before .before .before .before .before .before .least .ensures) (c .before .before .before .before .before .before .before .before .before .before .lower .last .0) (c .before .before .before .before .before .before .before .before .before .before .lower .result) (c .before .before .before .before .before .before .before .before .before .minus2 .result) (c .before .before .before .before .before .before .before .before .minus3 .result) (c .before .before .before .before .before .before .before .before .before .before .lower .ensures .0) (c .before .before .before .before .before .before .before .before .before .before .lower .ensures .1) (c .before .before .before .before .before .before .before .before .before .minus2 .ensures .are) (c .before .before .before .before .before .before .before .before .minus3 .ensures .are)
+    (c .before .before .before .before .before .before .settle .result) (c .before .before .before .minus4 .result) (c .before .before .before .before .before .before .settle .last .1 .1 .0) (c .stamp .last .0) (settled-by (c .before .before .before .before .before .before))
     (λ v. c .before .before .before .minus4 .ensures .are v ∙ ap₂ (λ (x y : Bool). x && not y) (c .before .before .before .before .before .either .ensures .are v) (c .before .before .before .before .either2 .ensures .are v))
     (c .stamp .ensures)
 
@@ -120,7 +131,7 @@ leap-spec =
     lower-requires
     minus-requires-2
     minus-requires-3
-    behind-requires
+    settle-requires
     either-requires
     either-requires-2
     minus-requires-4

@@ -1,0 +1,77 @@
+use mathlib.Core.Path.{_≡_, ap, _∙_}
+use mathlib.Core.Bool.{_&&_}
+use Prim.Native.Nat.{_-_, _≤_, zero-le}
+use native.Mathlib.Omega.{arith}
+use borrow.Author.Needs.{needs}
+use borrow.Author.Tests.{le-ltb}
+use lib.Dec.{ltb}
+use lib.ListN.{length, List·getD-eq-default}
+use Rattle.vset.specs.Members.{Members}
+use Rattle.vset.proofs.Gather.{gather-none, gather-more, gather-all}
+use Rattle.tick.specs.Ready.{someLeft}
+use Rattle.tick.proofs.waiting.held.Statement.{statement}
+use Rattle.tick.proofs.waiting.held.Tie as tie
+use Rattle.tick.proofs.waiting.held.Reads as reads
+use Rattle.tick.proofs.waiting.held.Lts as lts
+use Rattle.vset.proofs.none.Reads as none-reads
+use Rattle.vset.proofs.with_if.Reads as with-if-reads
+
+abbrev Inv-loop : tie.InvT-loop
+Inv-loop waiting got₀ v₀ got v = (v ≤ 128) × Members got (λ k. ltb k v && someLeft waiting k)
+
+abbrev μ-loop : tie.MeasureT-loop
+μ-loop waiting got₀ v₀ got v = 128 - v
+
+-- src/waiting.rt:96:9
+none-requires : tie.Need-none-requires Inv-loop μ-loop
+none-requires c κs = search needs
+
+-- src/waiting.rt:98:5
+loop-holds : tie.Need-loop-holds Inv-loop μ-loop
+loop-holds c = (search needs, gather-none _ _ (c .none .ensures))
+
+-- src/waiting.rt:99:41
+array-read-with-if : tie.Need-array-read-with-if Inv-loop μ-loop
+array-read-with-if c = search needs
+
+-- src/waiting.rt:99:9
+with-if-requires : tie.Need-with-if-requires Inv-loop μ-loop
+with-if-requires c κs = search needs
+
+-- src/waiting.rt:100:9
+add-v : tie.Need-add-v Inv-loop μ-loop
+add-v c = search needs
+
+-- src/waiting.rt:98:5
+loop-less : tie.Need-loop-less Inv-loop μ-loop
+loop-less c = search needs
+
+-- src/waiting.rt:98:5
+loop-again : tie.Need-loop-again Inv-loop μ-loop
+unfolding someLeft
+loop-again c = (search needs, gather-more _ _ (someLeft (c .before .before .before .before .args .t1)) _ (c .before .before .loop .inv .1) (c .with-if .ensures))
+
+-- src/waiting.rt:93:1
+returns : tie.Need-returns Inv-loop μ-loop
+unfolding someLeft
+returns c =
+    let l = c .before .loop in
+    let waiting = c .before .before .before .args .t1 in
+    let long : length waiting ≡ 128 = search needs in
+    let e : l .v ≡ 128 = omega arith in
+    gather-all _ (someLeft waiting) 128 (rw (← e) (l .inv .1)) (λ k h. ap (ltb 0) (List·getD-eq-default waiting 0 (omega arith)) ∙ le-ltb 0 0 zero-le)
+
+pub held-spec : {M : Type 1} → statement M
+held-spec =
+    tie.close
+    (tie.spec
+    Inv-loop
+    μ-loop
+    none-requires
+    loop-holds
+    array-read-with-if
+    with-if-requires
+    add-v
+    loop-less
+    loop-again
+    returns)
