@@ -24,6 +24,7 @@ use Rattle.model.proofs.Leap.{leap-steps, leap-finished}
 use Rattle.graph.specs.declared.Graph.{Graph}
 use Rattle.graph.specs.Model.{asModel, AcceptedGraph}
 use Rattle.vset.specs.Members.{isIn}
+use Rattle.vset.proofs.Taking.{twice}
 use Rattle.tick.specs.declared.Run.{Run}
 use Rattle.tick.specs.Run.{MOST, leftOf, stateOf, recordOf}
 use Rattle.tick.specs.Ready.{someLeft}
@@ -93,10 +94,6 @@ module _ (g : Graph) (A : AcceptedGraph g) where
     done-there v l =
         ap (λ (x : State). finished G (x .rest) v) (sym there)
         ∙ sym (ap not (unfinished-is g A new (leapt .sound) v l) ∙ twice (finished G (leftOf (new .run)) v))
-      where
-        twice : (b : Bool) → not (not b) ≡ b
-        twice true = refl
-        twice false = refl
 
     -- before the leap's end nothing more is finished
     during : (t : ℕ) → now ≤ t → t < new .run .instant → (v : ℕ) → doneAt G e t v ≡ finished G (leftOf (w .run)) v
@@ -229,10 +226,6 @@ module _ (g : Graph) (A : AcceptedGraph g) where
       at-zero : (v : ℕ) → v < g .n → doneAt G (leftOf r) 0 v ≡ not (unfinished w v)
       unfolding doneAt steps
       at-zero v l = sym (ap not (unfinished-is g A w sound-start v l ∙ ap (λ (x : Run). not (finished G (leftOf x) v)) is-run) ∙ twice (finished G (leftOf r) v))
-        where
-          twice : (b : Bool) → not (not b) ≡ b
-          twice true = refl
-          twice false = refl
 
       pub kept-start : Kept g (leftOf r) w
       kept-start = record {

@@ -10,13 +10,9 @@ use lib.ListN.{getD, set, length, length-set}
 use borrow.Author.Tests.{eqb-true, eq-eqb}
 use Rattle.model.specs.Places.{pick}
 use Rattle.model.proofs.Bools.{cases, le-or-lt, or-cases, or-left, or-right}
-use Rattle.vset.proofs.Taking.{still-in, taken-more}
+use Rattle.vset.proofs.Taking.{still-in, taken-more, none-taken, all-taken}
 use Rattle.tick.proofs.Turns.{put-at}
 use Rattle.schedule.specs.Leaps.{LeastOf, stamped, Stamped}
-
-not-both : (b : Bool) → b && not b ≡ false
-not-both true = refl
-not-both false = refl
 
 -- ---- the least of a set, and of one place more
 
@@ -55,7 +51,7 @@ module _ (f : ℕ → ℕ) (v : ℕ) (from : ℕ → Bool) where
   pub least-first : Least f v from from (f v)
   least-first = record {
     inside = λ u h. h;
-    so-far = least-one f (λ u. (from u && not (from u)) || eqb u v) v (λ u. ap (λ (b : Bool). b || eqb u v) (not-both (from u)));
+    so-far = least-one f (λ u. (from u && not (from u)) || eqb u v) v (λ u. ap (λ (b : Bool). b || eqb u v) (none-taken from u));
   }
 
   pub least-next : (rest : ℕ → Bool) (best t : ℕ) → Least f v from rest best → rest t ≡ true → (next : ℕ → Bool) → ((k : ℕ) → next k ≡ rest k && not (eqb k t))
@@ -95,7 +91,7 @@ pub record Stamping (old : List ℕ) (on : ℕ → Bool) (t : ℕ) (new : List �
 module _ (old : List ℕ) (on : ℕ → Bool) (x : ℕ) where
   pub stamping-none : length old ≡ 128 → Stamping old on x old on
   unfolding stamped
-  stamping-none long = record { inside = λ v h. h; so-far = record { long = long; at = λ v h. rw (not-both (on v)) refl } }
+  stamping-none long = record { inside = λ v h. h; so-far = record { long = long; at = λ v h. rw (none-taken on v) refl } }
 
   pub stamping-more : (new : List ℕ) (rest : ℕ → Bool) (t : ℕ) → Stamping old on x new rest → t < 128 → rest t ≡ true → (next : ℕ → Bool) → ((k : ℕ) → next k ≡ rest k && not (eqb k t))
       → Stamping old on x (set new t x) next
@@ -114,7 +110,4 @@ module _ (old : List ℕ) (on : ℕ → Bool) (x : ℕ) where
 
   pub stamping-all : (new : List ℕ) (rest : ℕ → Bool) → Stamping old on x new rest → ((v : ℕ) → rest v ≡ false) → Stamped old on x new
   unfolding stamped
-  stamping-all new rest s none = record { long = s .so-far .long; at = λ v h. s .so-far .at v h ∙ ap (λ (b : Bool). pick b x (getD old v 0)) (all v) }
-    where
-      all : (v : ℕ) → on v && not (rest v) ≡ on v
-      all v = ap (λ (b : Bool). on v && not b) (none v) ∙ and-true (on v)
+  stamping-all new rest s none = record { long = s .so-far .long; at = λ v h. s .so-far .at v h ∙ ap (λ (b : Bool). pick b x (getD old v 0)) (all-taken on rest none v) }

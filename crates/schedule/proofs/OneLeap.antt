@@ -21,6 +21,7 @@ use Rattle.graph.specs.declared.Graph.{Graph}
 use Rattle.graph.specs.Model.{asModel, AcceptedGraph}
 use Rattle.vset.specs.declared.Vset.{Vset}
 use Rattle.vset.specs.Members.{isIn, Members}
+use Rattle.vset.proofs.Taking.{twice}
 use Rattle.tick.specs.declared.Run.{Run}
 use Rattle.tick.specs.Run.{MOST, leftOf, stateOf, recordOf, over}
 use Rattle.tick.specs.Ready.{someLeft}
@@ -38,10 +39,6 @@ not-or : (a b : Bool) → a || b ≡ not (not a && not b)
 not-or true b = refl
 not-or false true = refl
 not-or false false = refl
-
-twice : (b : Bool) → not (not b) ≡ b
-twice true = refl
-twice false = refl
 
 module _ (g : Graph) (A : AcceptedGraph g) where
   abbrev G : model.Graph

@@ -3,7 +3,7 @@
 --   Work                  the run: its record, who has ticks left, who stands behind them, the numbers of unfinished predecessors,
 --                         and the finish instants
 --   workOf g m left wait fins    the same, from what the code keeps of it
---   Lists g cores words edge starts    the lists that a leap goes by are those of the graph
+--   ListsOf g cores words edge starts    the lists that a leap goes by are those of the graph
 --   LeastOf f p r         r is the least value of f over the places of p
 --   stamped l p t v       t for a place of p, else what stands in l
 --   Stamped l p t new     the list `new` has that at each place
@@ -45,7 +45,7 @@ abbrev pub workOf : Graph → Moment → List ℕ → List ℕ → List ℕ → 
 workOf g m left waiting finishes =
     record { run = record { n = g .n; instant = m .instant; left = left; ran = m .ran }; busy = m .busy; behind = m .behind; waiting = waiting; finishes = finishes }
 
-pub record Lists (g : Graph) (cores words edge starts : List ℕ) : Type 0 where
+pub record ListsOf (g : Graph) (cores words edge starts : List ℕ) : Type 0 where
   pub cores-are : cores ≡ g .cores
   pub words-are : OfKinds words (g .kind) (g .n)
   pub edges-are : edge ≡ g .edge

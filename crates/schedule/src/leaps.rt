@@ -9,7 +9,7 @@ ghost use Rattle.graph.specs.Model.{AcceptedGraph};
 ghost use Rattle.vset.specs.Members.{isIn};
 ghost use Rattle.tick.specs.Run.{leftOf};
 ghost use Rattle.tick.specs.Remains.{place};
-ghost use Rattle.schedule.specs.Leaps.{LeastOf, Stamped, workOf, Lists, Sound, Leapt, Fresh, Ran};
+ghost use Rattle.schedule.specs.Leaps.{LeastOf, Stamped, workOf, ListsOf, Sound, Leapt, Fresh, Ran};
 use graph::Graph;
 use tick::Run;
 use vset::Vset;
@@ -78,7 +78,7 @@ fn leap(
     finishes: &mut [u32; 128],
 ) -> Moment
     requires { ⌜ AcceptedGraph g ⌝ }
-    requires { ⌜ Lists g (now cores) (now words) (now edge) (now starts) ⌝ }
+    requires { ⌜ ListsOf g (now cores) (now words) (now edge) (now starts) ⌝ }
     requires { ⌜ Sound g (workOf g m (now left) (now waiting) (now finishes)) ⌝ }
     requires { ⌜ 0 < count (isIn (m .busy)) 128 ⌝ }
     ensures { λ r. ⌜ Leapt g (workOf g m (now (left .entry)) (now (waiting .entry)) (now (finishes .entry))) (workOf g r (now (left .exit)) (now (waiting .exit)) (now (finishes .exit))) ⌝ }

@@ -3,11 +3,11 @@
 use mathlib.Core.Path.{_≡_, refl, sym, ap, _∙_, fun-ext}
 use mathlib.Core.Logic.{_⊎_, inl, inr, ⊎-elim}
 use mathlib.Core.List.{List}
-use mathlib.Core.Bool.{Bool, true, false, not, _&&_, _||_, or-true}
-use Prim.Native.Nat.{ℕ, zero, suc, _+_, _-_, _/_, _%_, _≤_, _<_}
+use mathlib.Core.Bool.{Bool, true, false, not, _&&_, _||_}
+use Prim.Native.Nat.{ℕ, zero, suc, _+_, _-_, _≤_, _<_}
 use native.Mathlib.Omega.{arith}
 use native.Mathlib.Decide.{ℕ-discrete}
-use lib.Dec.{eqb, ltb, leb}
+use lib.Dec.{eqb, ltb}
 use lib.ListN.{getD, length}
 use lib.Seq.{ext-getD}
 use borrow.Author.Tests.{lt-ltb, ltb-true, leb-true, eq-eqb, ne-eqb, eqb-true}
@@ -22,7 +22,7 @@ use Rattle.graph.specs.declared.Graph.{Graph}
 use Rattle.graph.specs.Model.{asModel, from, to, AcceptedGraph}
 use Rattle.graph.proofs.Edges.{edge-at, edge-place, edges-ascend}
 use Rattle.vset.specs.declared.Vset.{Vset}
-use Rattle.vset.specs.Members.{isIn, Members}
+use Rattle.vset.specs.Members.{isIn}
 use Rattle.vset.proofs.Words.{past-none}
 use Rattle.vset.proofs.Same.{same-set}
 use Rattle.starts.specs.Starts.{notBelow, startIn, startOf}

@@ -1,9 +1,9 @@
 -- The remainders lowered where they stand, one vertex after another.
-use mathlib.Core.Path.{_≡_, refl, sym, ap, ap₂, _∙_}
+use mathlib.Core.Path.{_≡_, sym, ap, _∙_}
 use mathlib.Core.Logic.{_⊎_, inl, inr}
 use mathlib.Core.List.{List}
 use mathlib.Core.Bool.{Bool, true, false, not, _&&_, _||_, or-true, or-false, and-false, and-true}
-use Prim.Native.Nat.{ℕ, _-_, _≤_, _<_}
+use Prim.Native.Nat.{ℕ, _-_, _<_}
 use native.Mathlib.Omega.{arith}
 use lib.Dec.{eqb, ltb}
 use lib.ListN.{getD, set, length, length-set}
@@ -13,7 +13,7 @@ use Rattle.model.proofs.Bools.{cases}
 use Rattle.vset.specs.declared.Vset.{Vset}
 use Rattle.vset.specs.Members.{isIn, Members}
 use Rattle.vset.proofs.Gather.{members-ext}
-use Rattle.vset.proofs.Taking.{still-in, taken-more}
+use Rattle.vset.proofs.Taking.{still-in, taken-more, none-taken, all-taken}
 use Rattle.tick.specs.Ready.{someLeft}
 use Rattle.tick.specs.Remains.{lowered}
 use Rattle.tick.proofs.Turns.{as-table, put-at}
@@ -25,18 +25,14 @@ pub record Lowering (old : List ℕ) (on : ℕ → Bool) (d : ℕ) (left : List 
   pub inside : (v : ℕ) → rest v ≡ true → on v ≡ true
   pub marks : Members still (λ v. (on v && not (rest v)) && someLeft left v)
 
-not-and : (b : Bool) → b && not b ≡ false
-not-and true = refl
-not-and false = refl
-
 module _ (old : List ℕ) (on : ℕ → Bool) (d : ℕ) where
   pub lowering-none : length old ≡ 128 → (still : Vset) → Members still (λ v. false) → Lowering old on d old still on
   unfolding lowered
   lowering-none long still m = record {
     long = long;
-    lower = λ v. rw (not-and (on v)) (omega arith);
+    lower = λ v. rw (none-taken on v) (omega arith);
     inside = λ v t. t;
-    marks = members-ext still (λ v. false) (λ v. (on v && not (on v)) && someLeft old v) m (λ v. sym (ap (λ (b : Bool). b && someLeft old v) (not-and (on v))));
+    marks = members-ext still (λ v. false) (λ v. (on v && not (on v)) && someLeft old v) m (λ v. sym (ap (λ (b : Bool). b && someLeft old v) (none-taken on v)));
   }
 
   module _ (left : List ℕ) (still : Vset) (rest : ℕ → Bool) (L : Lowering old on d left still rest) where
@@ -82,9 +78,6 @@ module _ (old : List ℕ) (on : ℕ → Bool) (d : ℕ) where
     pub lowering-all : ((v : ℕ) → rest v ≡ false) → (left ≡ table (lowered old on d) 128) × Members still (λ v. on v && someLeft left v)
     unfolding lowered
     lowering-all none = (
-      as-table (lowered old on d) 128 left (L .long) (λ v h. L .lower v ∙ ap (λ (b : Bool). getD old v 0 - pick b d 0) (all v)),
-      members-ext still (λ v. (on v && not (rest v)) && someLeft left v) (λ v. on v && someLeft left v) (L .marks) (λ v. ap (λ (b : Bool). b && someLeft left v) (all v)),
+      as-table (lowered old on d) 128 left (L .long) (λ v h. L .lower v ∙ ap (λ (b : Bool). getD old v 0 - pick b d 0) (all-taken on rest none v)),
+      members-ext still (λ v. (on v && not (rest v)) && someLeft left v) (λ v. on v && someLeft left v) (L .marks) (λ v. ap (λ (b : Bool). b && someLeft left v) (all-taken on rest none v)),
     )
-      where
-        all : (v : ℕ) → on v && not (rest v) ≡ on v
-        all v = ap (λ (b : Bool). on v && not b) (none v) ∙ and-true (on v)

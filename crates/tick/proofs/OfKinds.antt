@@ -1,7 +1,7 @@
 -- The words of the kinds, as the vertices join them one by one.
 use mathlib.Core.Path.{_≡_, refl, sym, ap, ap₂, _∙_}
 use mathlib.Core.List.{List}
-use mathlib.Core.Bool.{Bool, true, false, _&&_, _||_, or-false}
+use mathlib.Core.Bool.{Bool, false, _&&_, _||_, or-false}
 use Prim.Native.Nat.{ℕ, _+_, _*_, _/_, _%_, _<_, zero-le}
 use native.Mathlib.Omega.{arith}
 use native.Mathlib.Decide.{ℕ-discrete}

@@ -4,22 +4,22 @@
 use mathlib.Core.Path.{_≡_, refl, sym, ap, ap₂, _∙_, fun-ext}
 use mathlib.Core.Logic.{_⊎_, inl, inr, ⊎-elim}
 use mathlib.Core.List.{List}
-use mathlib.Core.Bool.{Bool, true, false, not, _&&_, _||_, or-false, or-true, and-true, and-false}
-use Prim.Native.Nat.{ℕ, zero, suc, _+_, _-_, _≤_, _<_}
+use mathlib.Core.Bool.{Bool, true, false, not, _&&_, _||_, or-false, and-true, and-false}
+use Prim.Native.Nat.{ℕ, zero, suc, _+_, _≤_, _<_}
 use native.Mathlib.Omega.{arith}
 use lib.Dec.{eqb, ltb, leb}
-use lib.ListN.{getD, length}
-use borrow.Author.Tests.{lt-ltb, le-ltb, ltb-true, ltb-false, le-leb, leb-true, leb-false, eq-eqb, ne-eqb, eqb-true}
-use Rattle.model.specs.Places.{bit, first, count}
-use Rattle.model.proofs.Bools.{cases, clash, le-or-lt, both, left-of, right-of, or-left, or-right, or-cases, or-neither, not-is-true, same-test}
-use Rattle.model.proofs.Places.{first-le, first-below, first-here, count-ext, count-split, count-less}
+use lib.ListN.{getD}
+use borrow.Author.Tests.{lt-ltb, le-ltb, ltb-true, ltb-false, le-leb, leb-true, leb-false, eq-eqb, eqb-true}
+use Rattle.model.specs.Places.{bit, count}
+use Rattle.model.proofs.Bools.{cases, clash, le-or-lt, both, left-of, right-of, or-right, or-cases, or-neither, not-is-true, same-test}
+use Rattle.model.proofs.Places.{first-below, first-here, count-ext, count-split, count-less}
 use Rattle.model.proofs.Tables.{table-at}
 use Rattle.vset.specs.declared.Vset.{Vset}
 use Rattle.vset.specs.Members.{isIn, Members}
 use Rattle.starts.specs.Starts.{notBelow, startIn}
-use Rattle.starts.proofs.Together.{start-in, start-later}
+use Rattle.starts.proofs.Together.{start-in}
 use Rattle.tick.specs.declared.waiting.News.{News}
-use Rattle.tick.specs.Waiting.{comesFrom, leadsTo, entering, ends, edgesBy, Layout, Told, Unsettled, Settled}
+use Rattle.tick.specs.Waiting.{comesFrom, leadsTo, entering, leading, edgesBy, Layout, Told, Unsettled, Settled}
 use Rattle.tick.proofs.Turns.{count-past}
 
 entering-ext : (l : List ℕ) (p q : ℕ → Bool) (m v : ℕ) → ((u : ℕ) → p u ≡ q u) → entering l p m v ≡ entering l q m v
@@ -78,8 +78,8 @@ module _ (l starts : List ℕ) (L : Layout l starts) where
           (λ k. k) (le-or-lt (start (u + 1)) i)))
 
   -- without u, as many fewer as its edges are
-  split : (p : ℕ → Bool) (u v : ℕ) → p u ≡ true → entering l p m v ≡ entering l (λ w. p w && not (eqb w u)) m v + ends l (start u) (start (u + 1)) v
-  unfolding entering ends
+  split : (p : ℕ → Bool) (u v : ℕ) → p u ≡ true → entering l p m v ≡ entering l (λ w. p w && not (eqb w u)) m v + leading l (start u) (start (u + 1)) v
+  unfolding entering leading
   split p u v t =
       count-split (λ i. p (comesFrom l i) && eqb (leadsTo l i) v) (λ i. (p (comesFrom l i) && not (eqb (comesFrom l i) u)) && eqb (leadsTo l i) v) inside m
       (λ i h. rw (between u i h) (by-one (p (comesFrom l i)) (eqb (comesFrom l i) u) (eqb (leadsTo l i) v) (λ q. ap p (eqb-true (comesFrom l i) u q) ∙ t)))
@@ -103,7 +103,7 @@ module _ (l starts : List ℕ) (L : Layout l starts) where
     counts-here = or-right (busy u || behind u) (done u) here
 
     -- what u has to tell is counted
-    pub enough : (v : ℕ) → v < 128 → ends l (start u) (start (u + 1)) v ≤ getD w v 0
+    pub enough : (v : ℕ) → v < 128 → leading l (start u) (start (u + 1)) v ≤ getD w v 0
     enough v h = omega (arith, U .counts v h, split counting u v counts-here)
 
     module _ (new : List ℕ) (s r : News) (is-done : (v : ℕ) → isIn (s .done) v ≡ done v && not (eqb v u)) (T : Told l (start u) (start (u + 1)) w busy s new r) where

@@ -1,37 +1,36 @@
 -- The successors of a vertex are told, edge by edge.
 use mathlib.Core.Path.{_≡_, refl, sym, ap, ap₂, _∙_}
-use mathlib.Core.Logic.{_⊎_, inl, inr}
 use mathlib.Core.List.{List}
-use mathlib.Core.Bool.{Bool, true, false, not, _&&_, _||_, or-false, and-true, and-false}
+use mathlib.Core.Bool.{Bool, false, not, _&&_, _||_, or-false, and-true, and-false}
 use Prim.Native.Nat.{ℕ, zero, suc, _+_, _-_, _≤_, _<_}
 use native.Mathlib.Omega.{arith}
 use native.Mathlib.Decide.{ℕ-discrete}
 use lib.Dec.{eqb, ltb, leb}
-use lib.ListN.{getD, set, length, length-set}
+use lib.ListN.{getD, length, length-set}
 use borrow.Author.Tests.{lt-ltb, le-ltb, le-leb, lt-leb, eq-eqb, ne-eqb}
 use Rattle.model.specs.Places.{pick, bit, count}
 use Rattle.model.proofs.Places.{count-more, count-none, count-up}
 use Rattle.vset.specs.Members.{isIn, Members}
 use Rattle.vset.proofs.Gather.{members-ext}
 use Rattle.tick.specs.declared.waiting.News.{News}
-use Rattle.tick.specs.Waiting.{leadsTo, ends, Released, Told}
+use Rattle.tick.specs.Waiting.{leadsTo, leading, Released, Told}
 use Rattle.tick.proofs.Turns.{put-at}
 
 -- ---- how many edges lead to v
 
-pub ends-none : (l : List ℕ) (a v : ℕ) → ends l a a v ≡ 0
-unfolding ends
-ends-none l a v = count-none (λ i. leb a i && eqb (leadsTo l i) v) a (λ i h. ap (λ (b : Bool). b && eqb (leadsTo l i) v) (lt-leb a i h))
+pub leading-none : (l : List ℕ) (a v : ℕ) → leading l a a v ≡ 0
+unfolding leading
+leading-none l a v = count-none (λ i. leb a i && eqb (leadsTo l i) v) a (λ i h. ap (λ (b : Bool). b && eqb (leadsTo l i) v) (lt-leb a i h))
 
-pub ends-more : (l : List ℕ) (a i v : ℕ) → a ≤ i → ends l a (i + 1) v ≡ ends l a i v + bit (eqb (leadsTo l i) v)
-unfolding ends
-ends-more l a i v h =
+pub leading-more : (l : List ℕ) (a i v : ℕ) → a ≤ i → leading l a (i + 1) v ≡ leading l a i v + bit (eqb (leadsTo l i) v)
+unfolding leading
+leading-more l a i v h =
     count-more (λ i. leb a i && eqb (leadsTo l i) v) i
     ∙ ap (λ (b : Bool). count (λ i. leb a i && eqb (leadsTo l i) v) i + bit (b && eqb (leadsTo l i) v)) (le-leb a i h)
 
-pub ends-up : (l : List ℕ) (a i b v : ℕ) → i ≤ b → ends l a i v ≤ ends l a b v
-unfolding ends
-ends-up l a i b v h = count-up (λ i. leb a i && eqb (leadsTo l i) v) i b h
+pub leading-up : (l : List ℕ) (a i b v : ℕ) → i ≤ b → leading l a i v ≤ leading l a b v
+unfolding leading
+leading-up l a i b v h = count-up (λ i. leb a i && eqb (leadsTo l i) v) i b h
 
 -- ---- numbers
 
@@ -60,18 +59,18 @@ module _ (l : List ℕ) (a : ℕ) (w : List ℕ) (busy : ℕ → Bool) (s : News
   pub told-none : length w ≡ 128 → Members (s .behind) (λ v. ltb 0 (getD w v 0)) → Members (s .done) (isIn (s .done)) → Told l a a w busy s w s
   told-none long m d = record {
     long = long;
-    less = λ v. omega (arith, ends-none l a v);
+    less = λ v. omega (arith, leading-none l a v);
     behind = m;
     done = members-ext (s .done) (isIn (s .done)) (λ v. isIn (s .done) v || ((ltb 0 (getD w v 0) && eqb (getD w v 0) 0) && not (busy v))) d
         (λ v. sym (ap (λ (b : Bool). isIn (s .done) v || (b && not (busy v))) (some-none (getD w v 0)) ∙ or-false (isIn (s .done) v)));
   }
 
   -- an edge that is still to be followed is counted
-  pub left-to-tell : (i : ℕ) (old : List ℕ) (r : News) → Told l a i w busy s old r → a ≤ i → (b : ℕ) → i < b → ends l a b (leadsTo l i) ≤ getD w (leadsTo l i) 0
+  pub left-to-tell : (i : ℕ) (old : List ℕ) (r : News) → Told l a i w busy s old r → a ≤ i → (b : ℕ) → i < b → leading l a b (leadsTo l i) ≤ getD w (leadsTo l i) 0
       → 0 < getD old (leadsTo l i) 0
   left-to-tell i old r T h b k enough =
       let t = leadsTo l i in
-      omega (arith, T .less t, enough, ends-up l a (i + 1) b t (omega arith), ends-more l a i t h ∙ ap (λ (b : Bool). ends l a i t + bit b) (eq-eqb t t refl))
+      omega (arith, T .less t, enough, leading-up l a (i + 1) b t (omega arith), leading-more l a i t h ∙ ap (λ (b : Bool). leading l a i t + bit b) (eq-eqb t t refl))
 
   module _ (i : ℕ) (old : List ℕ) (r : News) (T : Told l a i w busy s old r) (h : a ≤ i) (known : leadsTo l i < 128) (some : 0 < getD old (leadsTo l i) 0)
       (new : List ℕ) (r′ : News) (R : Released old (leadsTo l i) busy r new r′) where
@@ -88,11 +87,11 @@ module _ (l : List ℕ) (a : ℕ) (w : List ℕ) (busy : ℕ → Bool) (s : News
     at-other v e = at v ∙ ap (λ (b : Bool). pick b (getD old t 0 - 1) (getD old v 0)) (ne-eqb v t e)
 
     -- one edge more leads to t, and to nobody else
-    more-t : ends l a (i + 1) t ≡ ends l a i t + 1
-    more-t = ends-more l a i t h ∙ ap (λ (b : Bool). ends l a i t + bit b) (eq-eqb t t refl)
+    more-t : leading l a (i + 1) t ≡ leading l a i t + 1
+    more-t = leading-more l a i t h ∙ ap (λ (b : Bool). leading l a i t + bit b) (eq-eqb t t refl)
 
-    more-other : (v : ℕ) → (v ≡ t → ⊥) → ends l a (i + 1) v ≡ ends l a i v
-    more-other v e = ends-more l a i v h ∙ ap (λ (b : Bool). ends l a i v + bit b) (ne-eqb t v (λ q. e (sym q))) ∙ omega arith
+    more-other : (v : ℕ) → (v ≡ t → ⊥) → leading l a (i + 1) v ≡ leading l a i v
+    more-other v e = leading-more l a i v h ∙ ap (λ (b : Bool). leading l a i v + bit b) (ne-eqb t v (λ q. e (sym q))) ∙ omega arith
 
     pub told-more : Told l a (i + 1) w busy s new r′
     told-more = record {
@@ -107,7 +106,7 @@ module _ (l : List ℕ) (a : ℕ) (w : List ℕ) (busy : ℕ → Bool) (s : News
         goal : ℕ → Bool
         goal v = isIn (s .done) v || ((ltb 0 (getD w v 0) && eqb (getD new v 0) 0) && not (busy v))
 
-        less : (v : ℕ) → Dec (v ≡ t) → getD new v 0 ≡ getD w v 0 - ends l a (i + 1) v
+        less : (v : ℕ) → Dec (v ≡ t) → getD new v 0 ≡ getD w v 0 - leading l a (i + 1) v
         less v (yes e) = rw e (omega (arith, at-t, T .less t, more-t))
         less v (no e) = omega (arith, at-other v e, T .less v, more-other v e)
 

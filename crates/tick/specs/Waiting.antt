@@ -3,7 +3,7 @@
 --
 --   comesFrom l i, leadsTo l i         the ends of edge i of the list l
 --   entering l p m v                   how many of the first m edges of l lead to v from a vertex for which p holds
---   ends l a b v                       how many of the edges from place a up to b lead to v
+--   leading l a b v                    how many of the edges from place a up to b lead to v
 --   edgesBy starts                     the number of edges, by where the edges of each vertex begin
 --   Layout l starts                    l is a list of edges without a cycle, and `starts` says where the edges of each vertex begin
 --   Released w v busy s new r          one unfinished predecessor less for v
@@ -31,8 +31,8 @@ leadsTo l i = getD l i 0 % 256
 unfoldable pub entering : List ℕ → (ℕ → Bool) → ℕ → ℕ → ℕ
 entering l p m v = count (λ i. p (comesFrom l i) && eqb (leadsTo l i) v) m
 
-unfoldable pub ends : List ℕ → ℕ → ℕ → ℕ → ℕ
-ends l a b v = count (λ i. leb a i && eqb (leadsTo l i) v) b
+unfoldable pub leading : List ℕ → ℕ → ℕ → ℕ → ℕ
+leading l a b v = count (λ i. leb a i && eqb (leadsTo l i) v) b
 
 abbrev pub edgesBy : List ℕ → ℕ
 edgesBy starts = getD starts 128 0
@@ -53,7 +53,7 @@ pub record Released (w : List ℕ) (v : ℕ) (busy : ℕ → Bool) (s : News) (n
 
 pub record Told (l : List ℕ) (a b : ℕ) (w : List ℕ) (busy : ℕ → Bool) (s : News) (new : List ℕ) (r : News) : Type 0 where
   pub long : length new ≡ 128
-  pub less : (v : ℕ) → getD new v 0 ≡ getD w v 0 - ends l a b v
+  pub less : (v : ℕ) → getD new v 0 ≡ getD w v 0 - leading l a b v
   pub behind : Members (r .behind) (λ v. ltb 0 (getD new v 0))
   pub done : Members (r .done) (λ v. isIn (s .done) v || ((ltb 0 (getD w v 0) && eqb (getD new v 0) 0) && not (busy v)))
 

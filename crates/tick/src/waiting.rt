@@ -8,7 +8,7 @@ ghost use lib.ListN.{getD, length};
 ghost use Rattle.model.specs.Places.{table};
 ghost use Rattle.vset.specs.Members.{isIn, Members};
 ghost use Rattle.tick.specs.Ready.{someLeft};
-ghost use Rattle.tick.specs.Waiting.{comesFrom, leadsTo, entering, ends, edgesBy, Layout, Released, Told, Unsettled, Settled};
+ghost use Rattle.tick.specs.Waiting.{comesFrom, leadsTo, entering, leading, edgesBy, Layout, Released, Told, Unsettled, Settled};
 use vset::Vset;
 
 // Who stands behind an unfinished vertex, and who is finished and has not told its successors.
@@ -45,7 +45,7 @@ fn tell(
     requires { ⌜ length (now waiting) ≡ 128 ⌝ }
     requires { ⌜ (start ≤ end) × (end ≤ 1024) ⌝ }
     requires { ⌜ ((i : ℕ) → i < end → leadsTo (now edge) i < 128) ⌝ }
-    requires { ⌜ ((v : ℕ) → v < 128 → ends (now edge) start end v ≤ getD (now waiting) v 0) ⌝ }
+    requires { ⌜ ((v : ℕ) → v < 128 → leading (now edge) start end v ≤ getD (now waiting) v 0) ⌝ }
     requires { ⌜ Members (s .behind) (λ v. ltb 0 (getD (now waiting) v 0)) ⌝ }
     ensures { λ r. ⌜ Told (now (edge .entry)) start end (now (waiting .entry)) (isIn busy) s (now (waiting .exit)) r ⌝ }
 {

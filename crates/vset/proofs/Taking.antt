@@ -1,9 +1,8 @@
 -- The members of a set taken one by one, the lowest first: what is taken is what is no longer in the rest.
 use mathlib.Core.Path.{_≡_, refl, sym, ap, ap₂, _∙_}
 use mathlib.Core.Logic.{_⊎_, inl, inr, ⊎-elim}
-use mathlib.Core.Bool.{Bool, true, false, not, _&&_, _||_, or-true, or-false, and-true}
+use mathlib.Core.Bool.{Bool, true, false, not, _&&_, _||_, or-false, and-true}
 use Prim.Native.Nat.{ℕ, _^_, _≤_, _<_}
-use native.Mathlib.Omega.{arith}
 use lib.Dec.{eqb}
 use borrow.Author.Tests.{eqb-true, eq-eqb}
 use Rattle.model.specs.Places.{any, first, count}
@@ -13,6 +12,10 @@ use Rattle.vset.specs.declared.Vset.{Vset}
 use Rattle.vset.specs.Members.{isIn, Members}
 use Rattle.vset.proofs.Words.{past-none}
 
+pub twice : (b : Bool) → not (not b) ≡ b
+twice true = refl
+twice false = refl
+
 -- the rest is empty, as a loop's test says
 pub emptied : (on : Vset) (rest : ℕ → Bool) → on .lo < 2 ^ 64 → on .hi < 2 ^ 64 → ((v : ℕ) → rest v ≡ true → isIn on v ≡ true) → (e : Bool) → e ≡ not (any rest 128) → not e ≡ false → (v : ℕ) → rest v ≡ false
 emptied on rest low high inside e is t v =
@@ -20,10 +23,6 @@ emptied on rest low high inside e is t v =
     (λ (l : 128 ≤ v). not-true (rest v) (λ h. clash (inside v h) (past-none on low high v l)))
     (λ (l : v < 128). any-false rest 128 v l (sym (twice (any rest 128)) ∙ ap not (sym is) ∙ t))
     (le-or-lt 128 v)
-  where
-    twice : (b : Bool) → not (not b) ≡ b
-    twice true = refl
-    twice false = refl
 
 -- an empty set has no member
 pub none-in : (s : Vset) (p : ℕ → Bool) → Members s p → (e : Bool) → e ≡ not (any (isIn s) 128) → e ≡ true → (v : ℕ) → p v ≡ false
@@ -53,3 +52,14 @@ module _ (rest next : ℕ → Bool) (t : ℕ) (is-next : (k : ℕ) → next k �
       go : (eqb k t ≡ true) ⊎ (eqb k t ≡ false) → on k && not (rest k && not (eqb k t)) ≡ (on k && not (rest k)) || eqb k t
       go (inl q) = let e = eqb-true k t q in rw (q, e, o, here) refl
       go (inr q) = rw q (ap (λ (x : Bool). on k && not x) (and-true (rest k)) ∙ sym (or-false (on k && not (rest k))))
+
+-- at first none is taken, and in the end all are
+pub none-taken : (on : ℕ → Bool) (v : ℕ) → on v && not (on v) ≡ false
+none-taken on v = neither (on v)
+  where
+    neither : (b : Bool) → b && not b ≡ false
+    neither true = refl
+    neither false = refl
+
+pub all-taken : (on rest : ℕ → Bool) → ((v : ℕ) → rest v ≡ false) → (v : ℕ) → on v && not (rest v) ≡ on v
+all-taken on rest none v = ap (λ (b : Bool). on v && not b) (none v) ∙ and-true (on v)

@@ -1,11 +1,10 @@
 use mathlib.Core.Path.{_≡_, refl}
 use mathlib.Core.Bool.{true, _||_}
 use denote.Ref.{now}
-use Prim.Native.Nat.{ℕ, _+_, _≤_, _<_}
+use Prim.Native.Nat.{_+_, _<_}
 use native.Mathlib.Omega.{arith}
 use borrow.Author.Needs.{needs}
 use borrow.Author.Tests.{not-false}
-use lib.ListN.{getD}
 use Rattle.model.specs.Places.{count}
 use Rattle.vset.specs.Members.{isIn, Members}
 use Rattle.vset.proofs.Words.{itself}
