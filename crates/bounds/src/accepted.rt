@@ -1,16 +1,20 @@
 // The bounds of an accepted graph.
 ghost use mathlib.Core.Path.{_≡_};
-ghost use Prim.Native.Nat.{_≤_};
-ghost use Rattle.model.specs.Places.{along, table};
+ghost use Prim.Native.Nat.{_+_, _-_, _*_, _/_, _≤_, _<_};
+ghost use Rattle.model.specs.Places.{along};
 ghost use Rattle.model.specs.Path.{Greatest};
-ghost use Rattle.model.specs.Bounds.{volume, OldB, NewB1};
+ghost use Rattle.model.specs.Bounds.{PARTS};
 ghost use Rattle.graph.specs.declared.Graph.{Graph};
+ghost use Rattle.graph.specs.declared.Answer.the-variants.{Accepted};
 ghost use Rattle.graph.specs.Model.{AcceptedGraph, asModel};
-ghost use Rattle.starts.specs.Starts.{startOf};
 ghost use Rattle.paths.specs.Ahead.{weigh, Weighed};
+ghost use Rattle.bounds.specs.Answers.{Figures};
+use crate::Bounded;
 use crate::volume::most_cores;
+use crate::volume::volume;
 use crate::weights::Measure;
 use crate::weights::weights;
+use graph::Answer;
 use graph::Graph;
 use paths::ahead::longest;
 use units::Parts;
@@ -26,25 +30,32 @@ fn largest(edge: &[u16; 1024], start: &[u16; 129], n: usize, weight: &[u64; 128]
     weight[h] + sums.ahead[h]
 }
 
-pub fn old_b(g: Graph, start: &[u16; 129], shares: Parts) -> Parts
-    requires { ⌜ AcceptedGraph g × (now start ≡ table (startOf g) 129) ⌝ }
-    requires { ⌜ (shares .0 ≡ volume (asModel g)) × (shares .0 ≤ 922521600000000) ⌝ }
-    ensures { λ r. ⌜ OldB (asModel g) (r .0) ⌝ }
+// OLD-B, from the longest sum of plain WCETs and the largest core number.
+fn old_b(len: Ticks, cores: u8, shares: Parts) -> Parts
+    requires { ⌜ (len .0 ≤ 128000000) × (0 < cores) × (shares .0 ≤ 922521600000000) ⌝ }
+    ensures { λ r. ⌜ r .0 ≡ (PARTS - PARTS / cores) * len .0 + shares .0 ⌝ }
 {
-    let n = g.n;
-    let weight = weights(&g.kind, &g.wcet, &g.cores, g.kinds, n, Measure::Plain);
-    let len = Ticks(largest(&g.edge, start, n, &weight));
-    Parts::rest(most_cores(&g.cores, g.kinds))
-        .for_ticks(len)
-        .plus(shares)
+    Parts::rest(cores).for_ticks(len).plus(shares)
 }
 
-pub fn new_b_1(g: Graph, start: &[u16; 129], shares: Parts) -> Parts
-    requires { ⌜ AcceptedGraph g × (now start ≡ table (startOf g) 129) ⌝ }
-    requires { ⌜ (shares .0 ≡ volume (asModel g)) × (shares .0 ≤ 922521600000000) ⌝ }
-    ensures { λ r. ⌜ NewB1 (asModel g) (r .0) ⌝ }
+pub fn figures(g: Graph) -> Bounded
+    requires { ⌜ AcceptedGraph g ⌝ }
+    ensures { λ r. ⌜ r .answer ≡ Accepted ⌝ }
+    ensures { λ r. ⌜ Figures (asModel g) r ⌝ }
 {
     let n = g.n;
-    let weight = weights(&g.kind, &g.wcet, &g.cores, g.kinds, n, Measure::Scaled);
-    Parts(largest(&g.edge, start, n, &weight)).plus(shares)
+    let start = starts::starts(g);
+    let shares = volume(&g.kind, &g.wcet, &g.cores, g.kinds, n);
+    let plain = weights(&g.kind, &g.wcet, &g.cores, g.kinds, n, Measure::Plain);
+    let scaled = weights(&g.kind, &g.wcet, &g.cores, g.kinds, n, Measure::Scaled);
+    let len = Ticks(largest(&g.edge, &start, n, &plain));
+    let old = old_b(len, most_cores(&g.cores, g.kinds), shares);
+    let new = Parts(largest(&g.edge, &start, n, &scaled)).plus(shares);
+    let ticks = new.ticks();
+    Bounded {
+        answer: Answer::Accepted,
+        old,
+        new,
+        ticks,
+    }
 }

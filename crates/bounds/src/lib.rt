@@ -1,8 +1,8 @@
 // The bounds OLD-B and NEW-B-1, and the path that gives NEW-B-1. The two entries take the file's bytes.
 ghost use mathlib.Core.Path.{_≡_};
-ghost use Rattle.graph.specs.Model.{AcceptedGraph, asModel};
-ghost use Rattle.graph.specs.declared.Answer.the-variants.{Accepted, Refused};
-ghost use Rattle.bounds.specs.Answers.{Figures, Nothing, BoundsOf, PathOf, PathIn};
+ghost use Rattle.graph.specs.Model.{AcceptedGraph};
+ghost use Rattle.graph.specs.declared.Answer.the-variants.{Refused};
+ghost use Rattle.bounds.specs.Answers.{Nothing, BoundsOf, PathOf, PathIn};
 use graph::Answer;
 use graph::Graph;
 use graph::Refusal;
@@ -19,24 +19,6 @@ pub struct Bounded {
     pub old: Parts,
     pub new: Parts,
     pub ticks: Ticks,
-}
-
-fn figures(g: Graph) -> Bounded
-    requires { ⌜ AcceptedGraph g ⌝ }
-    ensures { λ r. ⌜ r .answer ≡ Accepted ⌝ }
-    ensures { λ r. ⌜ Figures (asModel g) r ⌝ }
-{
-    let start = starts::starts(g);
-    let volume = volume::volume(&g.kind, &g.wcet, &g.cores, g.kinds, g.n);
-    let old = accepted::old_b(g, &start, volume);
-    let new = accepted::new_b_1(g, &start, volume);
-    let ticks = new.ticks();
-    Bounded {
-        answer: Answer::Accepted,
-        old,
-        new,
-        ticks,
-    }
 }
 
 fn nothing(refusal: Refusal) -> Bounded
@@ -60,7 +42,7 @@ pub fn bounds(file: &[u8]) -> Bounded
         Answer::Refused(refusal) => nothing(refusal),
         Answer::Accepted => {
             let g = taken.graph;
-            figures(g)
+            accepted::figures(g)
         }
     }
 }
