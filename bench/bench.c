@@ -181,22 +181,30 @@ static void deepest(struct input *in, const char *name) {
     full_times(in);
 }
 
-/* The same graph numbered the other way round: records of vertices and edges in the opposite order, with the opposite numbers. */
-static void against(struct input *in, const char *name, const struct input *up) {
-    size_t kinds = 0, records = up->length / 8;
+/* Against the edges, where they went upwards; and from the lowest to the highest and back, so that along a path every other edge goes down. */
+static size_t against(size_t v, size_t n) { return n - 1 - v; }
+static size_t to_and_fro(size_t v, size_t n) { return v % 2 == 0 ? v / 2 : n - 1 - v / 2; }
+
+/* The same graph with other numbers for its vertices. */
+static void renumbered(struct input *in, const char *name, const struct input *up, size_t (*as)(size_t, size_t)) {
+    uint8_t has[VERTICES][VERTICES] = {{0}}, was[VERTICES];
+    size_t kinds = 0, n = up->n;
     while (up->file[8 * kinds] == 0x54)
         kinds++;
-    size_t edges = records - kinds - up->n, last = up->n - 1;
+    for (size_t v = 0; v < n; v++)
+        was[as(v, n)] = (uint8_t)v;
+    for (size_t k = kinds + n; k < up->length / 8; k++)
+        has[as(up->file[8 * k + 1], n)][as(up->file[8 * k + 2], n)] = 1;
     in->name = name;
     in->length = 0;
-    for (size_t k = 0; k < kinds; k++)
-        put(in, 0x54, k, up->file[8 * k + 2], 0);
-    for (size_t v = 0; v < up->n; v++)
-        put(in, 0x56, v, up->file[8 * (kinds + last - v) + 2], wcet_at(up, kinds + last - v));
-    for (size_t i = 0; i < edges; i++) {
-        const uint8_t *r = up->file + 8 * (records - 1 - i);
-        put(in, 0x45, last - r[1], last - r[2], 0);
-    }
+    for (size_t s = 0; s < kinds; s++)
+        put(in, 0x54, s, up->file[8 * s + 2], 0);
+    for (size_t v = 0; v < n; v++)
+        put(in, 0x56, v, up->file[8 * (kinds + was[v]) + 2], wcet_at(up, kinds + was[v]));
+    for (size_t u = 0; u < n; u++)
+        for (size_t v = 0; v < n; v++)
+            if (has[u][v])
+                put(in, 0x45, u, v, 0);
     full_times(in);
 }
 
@@ -273,17 +281,21 @@ static void compare(const struct input *in, int ratios_only) {
     }
 }
 
+#define INPUTS 8
+
 /* With an argument, ratios alone. */
 int main(int count, char **words) {
     (void)words;
-    static struct input inputs[6];
+    static struct input inputs[INPUTS];
     if (from_file(&inputs[0], "case A", "samples/case-a.graph") || from_file(&inputs[1], "board", "samples/board.graph") ||
         from_file(&inputs[2], "largest, upwards", "crates/cases/data/length-9296.graph"))
         return 1;
-    against(&inputs[3], "largest, against", &inputs[2]);
-    deepest(&inputs[4], "deepest, upwards");
-    against(&inputs[5], "deepest, against", &inputs[4]);
-    for (int i = 0; i < 6; i++)
+    renumbered(&inputs[3], "largest, against", &inputs[2], against);
+    renumbered(&inputs[4], "largest, to and fro", &inputs[2], to_and_fro);
+    deepest(&inputs[5], "deepest, upwards");
+    renumbered(&inputs[6], "deepest, against", &inputs[5], against);
+    renumbered(&inputs[7], "deepest, to and fro", &inputs[5], to_and_fro);
+    for (int i = 0; i < INPUTS; i++)
         if (differ_altered(&inputs[i], 1000))
             return 1;
     for (size_t i = 0; i < CASES; i++) {
@@ -291,14 +303,14 @@ int main(int count, char **words) {
         if (from_file(&in, cases[i], cases[i]) || differ_any(&in))
             return 1;
     }
-    printf("equal answers: 6 inputs, each as it is and altered 1000 times, and %d cases; numbers met:", (int)CASES);
+    printf("equal answers: %d inputs, each as it is and altered 1000 times, and %d cases; numbers met:", INPUTS, (int)CASES);
     for (int k = 0; k < 32; k++)
         if (met >> k & 1)
             printf(" %d", k);
     printf("\n\n");
     printf(count > 1 ? "| input | call | proved / plain |\n|---|---|---|\n"
                      : "| input | call | proved / plain | proved, microseconds | plain, microseconds |\n|---|---|---|---|---|\n");
-    for (int i = 0; i < 6; i++)
+    for (int i = 0; i < INPUTS; i++)
         compare(&inputs[i], count > 1);
     return 0;
 }
