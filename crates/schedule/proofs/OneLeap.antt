@@ -5,7 +5,7 @@ use mathlib.Core.List.{List}
 use mathlib.Core.Bool.{Bool, true, false, not, _&&_, _||_, or-false, and-true, and-false}
 use Prim.Native.Nat.{ℕ, _+_, _-_, _≤_, _<_, zero-le}
 use native.Mathlib.Omega.{arith}
-use lib.Dec.{ltb}
+use lib.Dec.{eqb, ltb}
 use lib.ListN.{getD, length}
 use borrow.Author.Tests.{lt-ltb, le-ltb, ltb-true}
 use Rattle.model.specs.Places.{pick, any, every, count, sum, table}
@@ -21,14 +21,13 @@ use Rattle.graph.specs.declared.Graph.{Graph}
 use Rattle.graph.specs.Model.{asModel, AcceptedGraph}
 use Rattle.vset.specs.declared.Vset.{Vset}
 use Rattle.vset.specs.Members.{isIn, Members}
-use Rattle.vset.proofs.Taking.{twice}
 use Rattle.tick.specs.declared.Run.{Run}
 use Rattle.tick.specs.Run.{MOST, leftOf, stateOf, recordOf, over}
 use Rattle.tick.specs.Ready.{someLeft}
 use Rattle.tick.specs.Waiting.{entering, Unsettled, Settled}
 use Rattle.tick.specs.Remains.{lowered}
 use Rattle.tick.specs.Choice.{OfKinds, chosenBy}
-use Rattle.tick.proofs.Records.{moved-on, after-leap}
+use Rattle.tick.proofs.Records.{still-left, moved-on, after-leap}
 use Rattle.tick.proofs.ByKind.{fair-sound, fair-complete}
 use Rattle.tick.proofs.Ticking.{over-is, finished-by, on-is, on-able, on-runs}
 use Rattle.tick.proofs.Counters.{settled-behind}
@@ -94,15 +93,15 @@ module _ (g : Graph) (A : AcceptedGraph g) where
       enough : (v : ℕ) → chosen G (stateOf (w .run)) v ≡ true → d ≤ leftOf (w .run) v
       enough v t = within v (on-chosen v ∙ t) .1
 
-      module _ (left : List ℕ) (ran over busy : Vset) (is-left : left ≡ table (lowered (w .run .left) on d) 128)
-          (is-ran : Members ran (λ v. on v && someLeft left v)) (is-over : (v : ℕ) → isIn over v ≡ on v && not (isIn ran v))
+      module _ (left : List ℕ) (over ran busy : Vset) (is-left : left ≡ table (lowered (w .run .left) on d) 128)
+          (is-over : (v : ℕ) → isIn over v ≡ on v && eqb (getD left v 0) 0) (is-ran : Members ran (λ v. on v && not (isIn over v)))
           (busy-is : (v : ℕ) → isIn busy v ≡ isIn (w .busy) v && not (isIn over v)) where
         abbrev next : Run
         next = record { n = w .run .n; instant = w .run .instant + d; left = left; ran = ran }
 
         moved : next ≡ recordOf (w .run .n) (w .run .instant + d) (leap G d (stateOf (w .run)))
         moved =
-            moved-on (w .run) on d left ran (rw (sound .agrees) (A .few-vertices)) (λ v l. sound .past v (rw (← sound .agrees) l)) is-left is-ran
+            moved-on (w .run) on d left (isIn over) ran (rw (sound .agrees) (A .few-vertices)) (λ v l. sound .past v (rw (← sound .agrees) l)) is-left is-over is-ran
             ∙ ap (recordOf (w .run .n) (w .run .instant + d)) (after-leap G d (stateOf (w .run)) on on-chosen)
 
         left-after : (v : ℕ) → leftOf next v ≡ leftOf (w .run) v - pick (chosen G (stateOf (w .run)) v) d 0
@@ -111,10 +110,10 @@ module _ (g : Graph) (A : AcceptedGraph g) where
         -- who has run out of ticks is no longer busy, and nobody else
         is-busy : (v : ℕ) → isIn busy v ≡ someLeft left v
         unfolding someLeft leftOf
-        is-busy v = busy-is v ∙ ap (λ (b : Bool). isIn (w .busy) v && not b) (is-over v ∙ ap (λ (b : Bool). on v && not b) (is-ran .are v)) ∙ go (cases (on v))
+        is-busy v = busy-is v ∙ ap (λ (b : Bool). isIn (w .busy) v && not b) (is-over v) ∙ go (cases (on v))
           where
-            go : (on v ≡ true) ⊎ (on v ≡ false) → isIn (w .busy) v && not (on v && not (on v && ltb 0 (getD left v 0))) ≡ ltb 0 (getD left v 0)
-            go (inl t) = rw (t, sound .is-busy v ∙ lt-ltb 0 (getD (w .run .left) v 0) (on-has v t .1)) (twice (ltb 0 (getD left v 0)))
+            go : (on v ≡ true) ⊎ (on v ≡ false) → isIn (w .busy) v && not (on v && eqb (getD left v 0) 0) ≡ ltb 0 (getD left v 0)
+            go (inl t) = rw (t, sound .is-busy v ∙ lt-ltb 0 (getD (w .run .left) v 0) (on-has v t .1)) (still-left true (getD left v 0))
             go (inr f) =
                 let c : chosen G (stateOf (w .run)) v ≡ false = sym (on-chosen v) ∙ f in
                 let z : getD (w .run .left) v 0 ≡ getD left v 0 = omega (arith, rw c at (left-after v)) in
@@ -153,7 +152,7 @@ module _ (g : Graph) (A : AcceptedGraph g) where
         }
           where
             ran-on : (v : ℕ) → isIn over v ≡ true → on v ≡ true
-            ran-on v t = left-of (on v) (not (isIn ran v)) (sym (is-over v) ∙ t)
+            ran-on v t = left-of (on v) (eqb (getD left v 0) 0) (sym (is-over v) ∙ t)
 
             moved-over : (b h o : Bool) → (o ≡ true → b ≡ true) → b || h ≡ ((b && not o) || h) || o
             moved-over true true true f = refl

@@ -3,13 +3,14 @@
 ghost use mathlib.Core.Path.{_≡_};
 ghost use mathlib.Core.Bool.{true};
 ghost use Prim.Native.Nat.{_<_, min};
-ghost use lib.ListN.{length};
-ghost use Rattle.model.specs.Places.{any, count};
+ghost use lib.ListN.{length, replicate};
+ghost use Rattle.model.specs.Places.{any, count, table};
 ghost use Rattle.graph.specs.Model.{AcceptedGraph};
 ghost use Rattle.vset.specs.Members.{isIn};
 ghost use Rattle.tick.specs.Run.{leftOf};
 ghost use Rattle.tick.specs.Remains.{place};
-ghost use Rattle.schedule.specs.Leaps.{LeastOf, Stamped, workOf, ListsOf, Sound, Leapt, Fresh, Ran};
+ghost use Rattle.starts.specs.Starts.{startOf};
+ghost use Rattle.schedule.specs.Leaps.{LeastOf, Stamped, workOf, ListsOf, Sound, Leapt, Fresh, Kept, Ran};
 use graph::Graph;
 use tick::Run;
 use vset::Vset;
@@ -22,6 +23,12 @@ pub struct Moment {
     pub ran: Vset,
     pub busy: Vset,
     pub behind: Vset,
+}
+
+// A run at instant 0, and the numbers of unfinished predecessors.
+pub struct Outset {
+    pub moment: Moment,
+    pub waiting: [u8; 128],
 }
 
 // The end of a run: the finish, and the finish instants.
@@ -88,8 +95,8 @@ fn leap(
     let able = vset::minus(was_busy, was_behind);
     let on = tick::choice::chosen(g.kinds, cores, words, able, m.ran);
     let d = least(left, on);
-    let ran = tick::remains::lower(left, on, d);
-    let done = vset::minus(on, ran);
+    let done = tick::remains::lower(left, on, d);
+    let ran = vset::minus(on, done);
     let busy = vset::minus(was_busy, done);
     let behind = tick::waiting::settle(edge, starts, waiting, busy, was_behind, done);
     let new = vset::minus(
@@ -106,8 +113,29 @@ fn leap(
     }
 }
 
-// Leap after leap until no vertex has ticks left: at most N of them. What is finished at instant 0 has its finish instant already: the
-// table begins with zeros.
+// Instant 0. What is finished there has its finish instant already: the table of these begins with zeros.
+fn at_start(g: Graph, run: Run, edge: &[u16; 1024], starts: &[u16; 129]) -> Outset
+    requires { ⌜ AcceptedGraph g ⌝ }
+    requires { ⌜ Fresh g run ⌝ }
+    requires { ⌜ (now edge ≡ g .edge) × (now starts ≡ table (startOf g) 129) ⌝ }
+    ensures { λ r. ⌜ Kept g (leftOf run) (workOf g (r .moment) (run .left) (r .waiting) (replicate 128 0)) ⌝ }
+{
+    let left = run.left;
+    let ran = run.ran;
+    let busy = tick::ready::busy(left);
+    let begun = tick::waiting::begun(edge, starts, g.n, busy);
+    let behind = begun.behind;
+    let waiting = begun.waiting;
+    let moment = Moment {
+        instant: run.instant,
+        ran,
+        busy,
+        behind,
+    };
+    Outset { moment, waiting }
+}
+
+// Leap after leap until no vertex has ticks left: at most N of them.
 pub fn play(g: Graph, run: Run) -> Ended
     requires { ⌜ AcceptedGraph g ⌝ }
     requires { ⌜ Fresh g run ⌝ }
@@ -118,19 +146,11 @@ pub fn play(g: Graph, run: Run) -> Ended
     let edge = g.edge;
     let words = tick::choice::of_kinds(&kind, g.n);
     let starts = starts::starts(g);
+    let outset = at_start(g, run, &edge, &starts);
+    let mut m = outset.moment;
     let mut left = run.left;
-    let busy = tick::ready::busy(left);
-    let begun = tick::waiting::begun(&edge, &starts, g.n, busy);
-    let behind = begun.behind;
-    let mut waiting = begun.waiting;
+    let mut waiting = outset.waiting;
     let mut finishes = [0u32; 128];
-    let ran = run.ran;
-    let mut m = Moment {
-        instant: run.instant,
-        ran,
-        busy,
-        behind,
-    };
     while !vset::is_empty(m.busy) {
         m = leap(
             m,

@@ -47,8 +47,9 @@ impl Run {
         ensures { λ r. ⌜ r ≡ recordOf (self .n) (self .instant + d) (after (isIn on) d (stateOf self)) ⌝ }
     {
         let mut left = self.left;
-        self.ran = remains::lower(&mut left, on, d);
+        let over = remains::lower(&mut left, on, d);
         self.left = left;
+        self.ran = vset::minus(on, over);
         self.instant = self.instant + (d as u64);
         self
     }

@@ -2,34 +2,33 @@
 ghost use mathlib.Core.Path.{_≡_};
 ghost use mathlib.Core.Bool.{true, _&&_};
 ghost use Prim.Native.Nat.{ℕ, _+_, _≤_, _<_};
-ghost use lib.Dec.{leb};
+ghost use lib.Dec.{eqb, leb};
 ghost use lib.ListN.{getD, length};
 ghost use Rattle.model.specs.Places.{every, sum, table};
 ghost use Rattle.vset.specs.Members.{isIn, Members};
 ghost use Rattle.tick.specs.Run.{MOST};
-ghost use Rattle.tick.specs.Ready.{someLeft};
 ghost use Rattle.tick.specs.Remains.{lowered, noMore, place};
 use vset::Vset;
 
 // Document 01's limit for an instant and all that remains from it on.
 const MOST: u64 = 128000000;
 
-// d ticks less for each vertex in `on`, where they stand; those of them that have ticks left after that.
+// d ticks less for each vertex in `on`, where they stand; those of them that have none left after that.
 pub fn lower(left: &mut [u32; 128], on: Vset, d: u32) -> Vset
     requires { ⌜ length (now left) ≡ 128 ⌝ }
     requires { ⌜ ((v : ℕ) → isIn on v ≡ true → d ≤ getD (now left) v 0) ⌝ }
-    ensures { λ r. ⌜ (now (left .exit) ≡ table (lowered (now (left .entry)) (isIn on) d) 128) × Members r (λ v. isIn on v && someLeft (now (left .exit)) v) ⌝ }
+    ensures { λ r. ⌜ (now (left .exit) ≡ table (lowered (now (left .entry)) (isIn on) d) 128) × Members r (λ v. isIn on v && eqb (getD (now (left .exit)) v 0) 0) ⌝ }
 {
-    let mut still = vset::none();
+    let mut over = vset::none();
     let mut rest = on;
     while !vset::is_empty(rest) {
         let v = vset::lowest(rest);
         let more = left[v] - d;
         left[v] = more;
-        still = vset::with_if(still, v, 0 < more);
+        over = vset::with_if(over, v, more == 0);
         rest = vset::without(rest, v);
     }
-    still
+    over
 }
 
 // Whether no remainder exceeds its WCET.

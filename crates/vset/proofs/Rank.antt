@@ -4,13 +4,12 @@ use mathlib.Core.Path.{_≡_, refl, sym, ap, ap₂, _∙_}
 use mathlib.Core.Logic.{⊎-elim}
 use mathlib.Core.Bool.{Bool, true, false, not, _&&_, _||_, or-true, or-false, and-true, and-false}
 use Prim.Native.Nat.{ℕ, zero, suc, _+_, _≤_, _<_, zero-le}
-use native.Mathlib.Nat.{eq-zero-or-pos}
 use native.Mathlib.Omega.{arith}
 use lib.Dec.{ltb, eqb}
 use borrow.Author.Tests.{lt-ltb, le-ltb, ltb-false, eqb-true, eqb-false}
 use Rattle.model.specs.Places.{count}
 use Rattle.model.proofs.Bools.{cases, clash, le-or-lt}
-use Rattle.model.proofs.Places.{count-there, count-not-there, count-up, none-counted}
+use Rattle.model.proofs.Places.{count-there, count-not-there, count-up}
 
 -- the first n: the members of rank below n
 abbrev pub firsts : (ℕ → Bool) → ℕ → ℕ → Bool
@@ -98,13 +97,6 @@ firsts-none p k = sym (ap (λ (x : Bool). p k && x) (le-ltb (count p k) 0 zero-l
 
 pub lasts-all : (p : ℕ → Bool) (k : ℕ) → p k ≡ lasts p 0 k
 lasts-all p k = sym (ap (λ (x : Bool). p k && not x) (le-ltb (count p k) 0 zero-le) ∙ and-true (p k))
-
--- while fewer than all are taken, some are left
-pub lasts-some : (p q : ℕ → Bool) (j : ℕ) → ((k : ℕ) → q k ≡ lasts p j k) → j < count p 128 → 0 < count q 128
-lasts-some p q j e l =
-    ⊎-elim
-    (λ z. absurd (omega (arith, rank-le p j 128 (λ k h. sym (e k) ∙ none-counted q 128 z k h))))
-    (λ h. h) (eq-zero-or-pos (count q 128))
 
 -- as many as there are is enough
 pub firsts-enough : (p : ℕ → Bool) (n k : ℕ) → ((i : ℕ) → 128 ≤ i → p i ≡ false) → count p 128 ≤ n → firsts p (count p 128) k ≡ firsts p n k

@@ -1,6 +1,6 @@
 ghost use mathlib.Core.Path.{_≡_};
 ghost use mathlib.Core.Bool.{false, not, _&&_, _||_};
-ghost use Prim.Native.Nat.{_<_, min};
+ghost use Prim.Native.Nat.{_<_};
 ghost use lib.Dec.{eqb, ltb};
 ghost use Rattle.model.specs.Places.{count, first, any};
 ghost use Rattle.vset.specs.Members.{isIn, Members};
@@ -122,22 +122,14 @@ pub fn lowest(s: Vset) -> usize
     }
 }
 
-fn smaller(a: u32, b: u32) -> u32
-    ensures { λ r. ⌜ r ≡ min a b ⌝ }
-{
-    if a < b { a } else { b }
-}
-
-// The first n members, in ascending order: those with fewer than n members below them. As many turns as there are to take, so
-// that no turn has to ask whether one is left.
+// The first n members, in ascending order: those with fewer than n members below them.
 pub fn first(s: Vset, n: u32) -> Vset
     ensures { λ r. ⌜ Members r (λ k. isIn s k && ltb (count (isIn s) k) n) ⌝ }
 {
-    let end = smaller(n, size(s));
     let mut got = none();
     let mut rest = s;
     let mut j = 0u32;
-    while j < end {
+    while (j < n) & !is_empty(rest) {
         let t = lowest(rest);
         got = with(got, t);
         rest = without(rest, t);

@@ -72,7 +72,7 @@ unfolding leftOf
 settle-requires c κs =
     let o = c .before .before .before .before .before .before .before in
     let s = o .before .before .before .before in
-    rw (s .pre .1 .0 .edges-are, s .pre .1 .0 .starts-are, all-edges (s .args .g) (s .pre .0)) (layout (s .args .g) (s .pre .0), unsettled (s .args .g) (s .pre .0) (workOf (s .args .g) (s .args .m) (now (s .args .left)) (now (s .args .waiting)) (now (s .args .finishes))) (s .pre .1 .1 .0) (s .pre .1 .1 .1) (isIn (o .before .minus .result)) (isIn (o .chosen .result)) (o .before .minus .ensures .are) (now (s .args .words)) (s .pre .1 .0 .words-are) (on-by o) (c .before .before .before .before .before .least .result) (c .before .before .before .before .before .least .ensures) (c .before .before .before .lower .last .0) (c .before .before .before .lower .result) (c .before .before .minus2 .result) (c .before .minus3 .result) (c .before .before .before .lower .ensures .0) (c .before .before .before .lower .ensures .1) (c .before .before .minus2 .ensures .are) (c .before .minus3 .ensures .are))
+    rw (s .pre .1 .0 .edges-are, s .pre .1 .0 .starts-are, all-edges (s .args .g) (s .pre .0)) (layout (s .args .g) (s .pre .0), unsettled (s .args .g) (s .pre .0) (workOf (s .args .g) (s .args .m) (now (s .args .left)) (now (s .args .waiting)) (now (s .args .finishes))) (s .pre .1 .1 .0) (s .pre .1 .1 .1) (isIn (o .before .minus .result)) (isIn (o .chosen .result)) (o .before .minus .ensures .are) (now (s .args .words)) (s .pre .1 .0 .words-are) (on-by o) (c .before .before .before .before .before .least .result) (c .before .before .before .before .before .least .ensures) (c .before .before .before .lower .last .0) (c .before .before .before .lower .result) (c .before .before .minus2 .result) (c .before .minus3 .result) (c .before .before .before .lower .ensures .0) (c .before .before .before .lower .ensures .1 .are) (c .before .before .minus2 .ensures) (c .before .minus3 .ensures .are))
 
 -- src/leaps.rt:85:27
 either-requires : tie.Need-either-requires
@@ -116,7 +116,7 @@ unfolding leftOf
 returns c =
     let o = c .before .before .before .before .before .before .before .before .before .before .before .before .before .before in
     let s = o .before .before .before .before in
-    leapt (s .args .g) (s .pre .0) (workOf (s .args .g) (s .args .m) (now (s .args .left)) (now (s .args .waiting)) (now (s .args .finishes))) (s .pre .1 .1 .0) (s .pre .1 .1 .1) (isIn (o .before .minus .result)) (isIn (o .chosen .result)) (o .before .minus .ensures .are) (now (s .args .words)) (s .pre .1 .0 .words-are) (on-by o) (c .before .before .before .before .before .before .before .before .before .before .before .before .least .result) (c .before .before .before .before .before .before .before .before .before .before .before .before .least .ensures) (c .before .before .before .before .before .before .before .before .before .before .lower .last .0) (c .before .before .before .before .before .before .before .before .before .before .lower .result) (c .before .before .before .before .before .before .before .before .before .minus2 .result) (c .before .before .before .before .before .before .before .before .minus3 .result) (c .before .before .before .before .before .before .before .before .before .before .lower .ensures .0) (c .before .before .before .before .before .before .before .before .before .before .lower .ensures .1) (c .before .before .before .before .before .before .before .before .before .minus2 .ensures .are) (c .before .before .before .before .before .before .before .before .minus3 .ensures .are)
+    leapt (s .args .g) (s .pre .0) (workOf (s .args .g) (s .args .m) (now (s .args .left)) (now (s .args .waiting)) (now (s .args .finishes))) (s .pre .1 .1 .0) (s .pre .1 .1 .1) (isIn (o .before .minus .result)) (isIn (o .chosen .result)) (o .before .minus .ensures .are) (now (s .args .words)) (s .pre .1 .0 .words-are) (on-by o) (c .before .before .before .before .before .before .before .before .before .before .before .before .least .result) (c .before .before .before .before .before .before .before .before .before .before .before .before .least .ensures) (c .before .before .before .before .before .before .before .before .before .before .lower .last .0) (c .before .before .before .before .before .before .before .before .before .before .lower .result) (c .before .before .before .before .before .before .before .before .before .minus2 .result) (c .before .before .before .before .before .before .before .before .minus3 .result) (c .before .before .before .before .before .before .before .before .before .before .lower .ensures .0) (c .before .before .before .before .before .before .before .before .before .before .lower .ensures .1 .are) (c .before .before .before .before .before .before .before .before .before .minus2 .ensures) (c .before .before .before .before .before .before .before .before .minus3 .ensures .are)
     (c .before .before .before .before .before .before .settle .result) (c .before .before .before .minus4 .result) (c .before .before .before .before .before .before .settle .last .1 .1 .0) (c .stamp .last .0) (settled-by (c .before .before .before .before .before .before))
     (λ v. c .before .before .before .minus4 .ensures .are v ∙ ap₂ (λ (x y : Bool). x && not y) (c .before .before .before .before .before .either .ensures .are v) (c .before .before .before .before .either2 .ensures .are v))
     (c .stamp .ensures)

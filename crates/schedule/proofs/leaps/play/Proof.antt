@@ -1,69 +1,51 @@
-use mathlib.Core.Path.{_≡_, refl, sym, ap, _∙_}
-use Prim.Native.Nat.{ℕ, _<_}
+use mathlib.Core.Path.{refl, sym, _∙_}
+use Prim.Native.Nat.{_<_}
 use borrow.Author.Needs.{needs}
 use borrow.Author.Tests.{not-false}
-use lib.ListN.{getD, length}
+use lib.ListN.{getD}
 use Rattle.model.specs.Places.{any, count}
 use Rattle.model.proofs.Bools.{not-is-true}
 use Rattle.model.proofs.Places.{any-false, count-none, count-some}
-use Rattle.graph.specs.Model.{from}
 use Rattle.vset.specs.Members.{isIn}
 use Rattle.vset.proofs.Taking.{lowest-in}
-use Rattle.tick.specs.declared.Run.{Run}
 use Rattle.tick.specs.Run.{leftOf}
 use Rattle.tick.proofs.ByKind.{kinds-known}
-use Rattle.tick.proofs.Counters.{all-edges, layout}
 use Rattle.schedule.specs.Leaps.{workOf, Kept}
-use Rattle.schedule.proofs.Leaping.{kept-start, keeps-on, ran-whole}
+use Rattle.schedule.proofs.Leaping.{keeps-on, ran-whole}
 use Rattle.schedule.proofs.leaps.play.Statement.{statement}
 use Rattle.schedule.proofs.leaps.play.Tie as tie
 use Rattle.schedule.proofs.leaps.play.Reads as reads
 use Rattle.schedule.proofs.leaps.play.Lts as lts
+use Rattle.schedule.proofs.leaps.at_start.Reads as at-start-reads
 use Rattle.schedule.proofs.leaps.leap.Reads as leap-reads
 use Rattle.starts.proofs.starts.Reads as starts-reads
 use Rattle.tick.proofs.choice.of_kinds.Reads as of-kinds-reads
-use Rattle.tick.proofs.ready.busy.Reads as busy-reads
-use Rattle.tick.proofs.waiting.begun.Reads as begun-reads
 use Rattle.vset.proofs.is_empty.Reads as is-empty-reads
 
 abbrev Inv-loop : tie.InvT-loop
-Inv-loop g cores edge words starts left₀ waiting₀ finishes₀ m₀ left waiting finishes m = Kept g (λ v. getD left₀ v 0) (workOf g m left waiting finishes)
+Inv-loop g cores edge words starts m₀ left₀ waiting₀ finishes₀ m left waiting finishes = Kept g (λ v. getD left₀ v 0) (workOf g m left waiting finishes)
 
 abbrev μ-loop : tie.MeasureT-loop
-μ-loop g cores edge words starts left₀ waiting₀ finishes₀ m₀ left waiting finishes m = count (isIn (m .busy)) 128
+μ-loop g cores edge words starts m₀ left₀ waiting₀ finishes₀ m left waiting finishes = count (isIn (m .busy)) 128
 
--- src/leaps.rt:106:17
+-- src/leaps.rt:147:17
 of-kinds-requires : tie.Need-of-kinds-requires Inv-loop μ-loop
 of-kinds-requires c κs = let s = c .before .before .before .before in (s .pre .0 .few-vertices, kinds-known (s .args .g) (s .pre .0))
 
--- src/leaps.rt:107:18
+-- src/leaps.rt:148:18
 starts-requires : tie.Need-starts-requires Inv-loop μ-loop
 starts-requires c κs = c .before .before .before .before .before .pre .0 .few-edges
 
--- src/leaps.rt:109:9
-busy-requires : tie.Need-busy-requires Inv-loop μ-loop
-busy-requires c κs = search needs
+-- src/leaps.rt:149:9
+at-start-requires : tie.Need-at-start-requires Inv-loop μ-loop
+at-start-requires c κs = let s = c .before .before .before .before .before .before .before .before in (s .pre .0, (s .pre .1, (refl, c .before .before .starts .ensures)))
 
--- src/leaps.rt:110:9
-begun-requires : tie.Need-begun-requires Inv-loop μ-loop
-unfolding from
-begun-requires c κs =
-    let s = c .before .before .before .before .before .before .before .before .before .before in
-    let A = s .pre .0 in
-    rw (c .before .before .before .before .starts .ensures) (layout (s .args .g) A, (A .few-vertices, λ i h. A .from-known i (rw (all-edges (s .args .g) A) at h)))
-
--- src/leaps.rt:121:5
+-- src/leaps.rt:154:5
 loop-holds : tie.Need-loop-holds Inv-loop μ-loop
 unfolding leftOf
-loop-holds c =
-    let s = c .before .before .before .before .before .before .before .before .before .before .before .before .before .before in
-    let g = s .args .g in
-    let r = s .args .run in
-    let long : length (r .left) ≡ 128 = search needs in
-    kept-start g (s .pre .0) r (s .pre .1) _ (ap {B = Run} (λ (n : ℕ). record { n = n; instant = r .instant; left = r .left; ran = r .ran }) (sym (s .pre .1 .agrees))) (c .before .before .before .before .before .before .busy .ensures .are)
-    (rw (c .before .before .before .before .before .before .before .before .starts .ensures, all-edges g (s .pre .0)) at (c .before .before .before .begun .ensures)) refl long
+loop-holds c = c .before .before .before .at-start .ensures
 
--- src/leaps.rt:121:12
+-- src/leaps.rt:154:12
 is-empty-requires : tie.Need-is-empty-requires Inv-loop μ-loop
 is-empty-requires c κs = search needs
 
@@ -74,31 +56,31 @@ some-busy c =
     let h = lowest-in busy _ (c .before .is-empty .result) refl (c .before .is-empty .ensures) (c .if1 .taken) in
     count-some busy 128 _ (h .0) (h .1)
 
--- src/leaps.rt:122:9
+-- src/leaps.rt:155:9
 leap-requires : tie.Need-leap-requires Inv-loop μ-loop
 leap-requires c κs =
-    let s = c .before .before .before .before .before .before .before .before .before .before .before .before .before .before .before .before .before .before .before .before .before .before .before .before in
+    let s = c .before .before .before .before .before .before .before .before .before .before .before .before .before .before .before .before .before .before .before .before .before .before in
     let l = c .before .before .before .before .before .before .before .before .before .loop in
-    (s .pre .0, (record { cores-are = refl; words-are = c .before .before .before .before .before .before .before .before .before .before .before .before .before .before .before .before .before .before .before .of-kinds .ensures; edges-are = refl; starts-are = c .before .before .before .before .before .before .before .before .before .before .before .before .before .before .before .before .before .before .starts .ensures }, (l .inv .sound, some-busy (c .before .before .before .before .before .before .before))))
+    (s .pre .0, (record { cores-are = refl; words-are = c .before .before .before .before .before .before .before .before .before .before .before .before .before .before .before .before .before .of-kinds .ensures; edges-are = refl; starts-are = c .before .before .before .before .before .before .before .before .before .before .before .before .before .before .before .before .starts .ensures }, (l .inv .sound, some-busy (c .before .before .before .before .before .before .before))))
 
--- src/leaps.rt:121:5
+-- src/leaps.rt:154:5
 loop-less : tie.Need-loop-less Inv-loop μ-loop
 loop-less c = c .leap .ensures .fewer
 
--- src/leaps.rt:121:5
+-- src/leaps.rt:154:5
 loop-again : tie.Need-loop-again Inv-loop μ-loop
 unfolding leftOf
 loop-again c =
-    let s = c .before .before .before .before .before .before .before .before .before .before .before .before .before .before .before .before .before .before .before .before .before .before .before .before .before in
+    let s = c .before .before .before .before .before .before .before .before .before .before .before .before .before .before .before .before .before .before .before .before .before .before .before in
     let l = c .before .before .before .before .before .before .before .before .before .before .loop in
     let t = c .leap in
     keeps-on (s .args .g) (s .pre .0) (leftOf (s .args .run)) (workOf (s .args .g) (l .m) (l .left) (l .waiting) (l .finishes)) (workOf (s .args .g) (t .result) (t .last .1 .1 .1 .1 .1 .1 .0) (t .last .1 .1 .1 .1 .1 .1 .1 .0) (t .last .1 .1 .1 .1 .1 .1 .1 .1 .0)) (l .inv) (some-busy (c .before .before .before .before .before .before .before .before)) (t .ensures)
 
--- src/leaps.rt:98:1
+-- src/leaps.rt:139:1
 returns : tie.Need-returns Inv-loop μ-loop
 unfolding leftOf
 returns c =
-    let s = c .before .before .before .before .before .before .before .before .before .before .before .before .before .before .before .before .before in
+    let s = c .before .before .before .before .before .before .before .before .before .before .before .before .before .before .before in
     let l = c .before .before .loop in
     let none = not-is-true (any (isIn (l .m .busy)) 128) (sym (c .before .is-empty .ensures) ∙ not-false (c .before .is-empty .result) (c .if1 .left)) in
     ran-whole (s .args .g) (s .pre .0) (leftOf (s .args .run)) (workOf (s .args .g) (l .m) (l .left) (l .waiting) (l .finishes)) (l .inv) (count-none (isIn (l .m .busy)) 128 (λ v h. any-false (isIn (l .m .busy)) 128 v h none))
@@ -111,8 +93,7 @@ play-spec =
     μ-loop
     of-kinds-requires
     starts-requires
-    busy-requires
-    begun-requires
+    at-start-requires
     loop-holds
     is-empty-requires
     leap-requires

@@ -19,10 +19,10 @@ use Rattle.vset.proofs.with_if.Reads as with-if-reads
 use Rattle.vset.proofs.without.Reads as without-reads
 
 abbrev Inv-loop : tie.InvT-loop
-Inv-loop left₀ d still₀ rest₀ left still rest = Lowering left₀ (isIn rest₀) d left still (isIn rest)
+Inv-loop left₀ d over₀ rest₀ left over rest = Lowering left₀ (isIn rest₀) d left over (isIn rest)
 
 abbrev μ-loop : tie.MeasureT-loop
-μ-loop left₀ d still₀ rest₀ left still rest = count (isIn rest) 128
+μ-loop left₀ d over₀ rest₀ left over rest = count (isIn rest) 128
 
 -- src/remains.rt:23:9
 none-requires : tie.Need-none-requires Inv-loop μ-loop
@@ -59,7 +59,7 @@ sub-more c =
     let s = c .before .before .before .before .before .before in
     let v = c .before .lowest .result in
     let h = found (c .before) .1 in
-    rw (untouched (now (s .args .left)) (isIn (s .args .on)) (s .args .d) (l .left) (l .still) (isIn (l .rest)) (l .inv) v h) (s .pre .1 v (l .inv .inside v h))
+    rw (untouched (now (s .args .left)) (isIn (s .args .on)) (s .args .d) (l .left) (l .over) (isIn (l .rest)) (l .inv) v h) (s .pre .1 v (l .inv .inside v h))
 
 -- src/remains.rt:28:9
 mul-left : tie.Need-mul-left Inv-loop μ-loop
@@ -90,14 +90,14 @@ loop-again c =
     let l = c .before .before .before .before .before .before .loop in
     let s = c .before .before .before .before .before .before .before .before in
     let h = found (c .before .before .before) in
-    lowering-more (now (s .args .left)) (isIn (s .args .on)) (s .args .d) (l .left) (l .still) (isIn (l .rest)) (l .inv) (c .before .before .before .lowest .result) (h .0) (h .1) (isIn (c .without .result)) (c .without .ensures .are) (c .before .with-if .result) (c .before .with-if .ensures)
+    lowering-more (now (s .args .left)) (isIn (s .args .on)) (s .args .d) (l .left) (l .over) (isIn (l .rest)) (l .inv) (c .before .before .before .lowest .result) (h .0) (h .1) (isIn (c .without .result)) (c .without .ensures .are) (c .before .with-if .result) (c .before .with-if .ensures)
 
 -- src/remains.rt:18:1
 returns : tie.Need-returns Inv-loop μ-loop
 returns c =
     let l = c .before .before .loop in
     let s = c .before .before .before .before in
-    lowering-all (now (s .args .left)) (isIn (s .args .on)) (s .args .d) (l .left) (l .still) (isIn (l .rest)) (l .inv) (emptied (s .args .on) (isIn (l .rest)) (omega arith) (omega arith) (l .inv .inside) (c .before .is-empty .result) (c .before .is-empty .ensures) (c .if1 .left))
+    lowering-all (now (s .args .left)) (isIn (s .args .on)) (s .args .d) (l .left) (l .over) (isIn (l .rest)) (l .inv) (emptied (s .args .on) (isIn (l .rest)) (omega arith) (omega arith) (l .inv .inside) (c .before .is-empty .result) (c .before .is-empty .ensures) (c .if1 .left))
 
 pub lower-spec : {M : Type 1} → statement M
 lower-spec =
