@@ -18,8 +18,9 @@ use Rattle.graph.specs.File.{records, byteAt, order, isOrder, many, grap
 use Rattle.graph.specs.Model.{asModel}
 use Rattle.graph.specs.Rules.{holds, perRecord, places, rule1, rule4, rule6, rule8, rule11, rule12}
 use Rattle.graph.specs.Judge.{placeOf, applies, lowest, judgeFrom, Rightly, takenFrom}
-use Rattle.graph.specs.Steps.{lowestIn, refusedWith, astray, takenOf}
+use Rattle.graph.specs.Steps.{Counted, Fitting, lowestIn, refusedWith, astray, lastOf, takenOf}
 use Rattle.graph.specs.declared.Refusal.{Refusal}
+use Rattle.graph.specs.declared.file.Counts.{Counts}
 use Rattle.graph.specs.declared.Answer.the-variants.{Accepted, Refused}
 
 -- a number that does not apply holds for no place
@@ -48,6 +49,29 @@ few-places s num h = go (perRecord num)
     go : (b : Bool) → pick b (records s) 1 ≤ 1165
     go true = omega arith
     go false = omega arith
+
+-- each record is of one kind at most, so the counts fit into the records
+one-order : (s : List ℕ) (k : ℕ) → bit (isOrder s 0 k) + bit (isOrder s 1 k) + bit (isOrder s 2 k) ≤ 1
+unfolding isOrder order
+one-order s k = go (eqb (byteAt s k 0) 0x54) (eqb (byteAt s k 0) 0x56) (eqb (byteAt s k 0) 0x45)
+  where
+    r : Bool → Bool → Bool → ℕ
+    r x y z = pick x 0 (pick y 1 (pick z 2 3))
+
+    go : (x y z : Bool) → bit (eqb (r x y z) 0) + bit (eqb (r x y z) 1) + bit (eqb (r x y z) 2) ≤ 1
+    go true y z = lit≤ tt
+    go false true z = lit≤ tt
+    go false false true = lit≤ tt
+    go false false false = lit≤ tt
+
+orders-below : (s : List ℕ) (n : ℕ) → count (isOrder s 0) n + count (isOrder s 1) n + count (isOrder s 2) n ≤ n
+unfolding count
+orders-below s zero = lit≤ tt
+orders-below s (suc n) = omega (arith, orders-below s n, one-order s n)
+
+pub all-fit : (s : List ℕ) → many s 0 + many s 1 + many s 2 ≤ records s
+unfolding many
+all-fit s = orders-below s (records s)
 
 module _ (s : List ℕ) (a : ℕ) where
   module _ (num : ℕ) (from : a ≤ num) (below : (j : ℕ) → j < num → a ≤ j → applies s j ≡ false) where
@@ -125,17 +149,27 @@ module _ (s : List ℕ) (a : ℕ) where
     past j l f = below-lowest j f (omega arith) (omega arith)
 
     -- the numbers 4, 6 and 8 bound the counts
-    pub few-kinds : many s 0 ≤ 10
+    few-kinds : many s 0 ≤ 10
     unfolding places holds rule4
     few-kinds = ltb-false 10 (many s 0) (or-neither (eqb (many s 0) 0) (ltb 10 (many s 0)) (not-applies s 4 (past 4 (lit< tt) (omega arith)) 0 (lit< tt)) .1)
 
-    pub few-vertices : many s 1 ≤ 128
+    few-vertices : many s 1 ≤ 128
     unfolding places holds rule6
     few-vertices = ltb-false 128 (many s 1) (or-neither (eqb (many s 1) 0) (ltb 128 (many s 1)) (not-applies s 6 (past 6 (lit< tt) (omega arith)) 0 (lit< tt)) .1)
 
-    pub few-edges : many s 2 ≤ 1024
+    few-edges : many s 2 ≤ 1024
     unfolding places holds rule8
     few-edges = ltb-false 1024 (many s 2) (not-applies s 8 (past 8 (lit< tt) (omega arith)) 0 (lit< tt))
+
+    pub fitting : (c : Counts) → Counted s c → Fitting s c
+    fitting c n =
+        record {
+          counted = n;
+          few-kinds = omega (arith, n .all-kinds, few-kinds);
+          few-vertices = omega (arith, n .all-vertices, few-vertices);
+          few-edges = omega (arith, n .all-edges, few-edges);
+          all-fit = omega (arith, n .all-kinds, n .all-vertices, n .all-edges, all-fit s);
+        }
 
     row-11 : holds s 11 0 ≡ cyclic (asModel (graphOf s))
     unfolding holds rule11
@@ -147,7 +181,7 @@ module _ (s : List ℕ) (a : ℕ) where
 
     -- then the numbers 11 and 12 are said of the graph that the records give
     pub taken-rest : takenFrom a s ≡ takenOf (graphOf s)
-    unfolding takenOf
+    unfolding takenOf lastOf
     taken-rest = go (cases (cyclic (asModel (graphOf s)))) (cases (astray (graphOf s)))
       where
         go : (cyclic (asModel (graphOf s)) ≡ true) ⊎ (cyclic (asModel (graphOf s)) ≡ false) → (astray (graphOf s) ≡ true) ⊎ (astray (graphOf s) ≡ false)
@@ -176,29 +210,6 @@ module _ (s : List ℕ) (a : ℕ) where
                 at j l f (yes q) y = rw q (whole-not s 11 refl (row-11 ∙ c))
                 at j l f (no q) (yes y) = rw y (whole-not s 12 refl (row-12 ∙ x))
                 at j l f (no q) (no y) = past j (omega arith) f
-
--- each record is of one kind at most, so the counts fit into the records
-one-order : (s : List ℕ) (k : ℕ) → bit (isOrder s 0 k) + bit (isOrder s 1 k) + bit (isOrder s 2 k) ≤ 1
-unfolding isOrder order
-one-order s k = go (eqb (byteAt s k 0) 0x54) (eqb (byteAt s k 0) 0x56) (eqb (byteAt s k 0) 0x45)
-  where
-    r : Bool → Bool → Bool → ℕ
-    r x y z = pick x 0 (pick y 1 (pick z 2 3))
-
-    go : (x y z : Bool) → bit (eqb (r x y z) 0) + bit (eqb (r x y z) 1) + bit (eqb (r x y z) 2) ≤ 1
-    go true y z = lit≤ tt
-    go false true z = lit≤ tt
-    go false false true = lit≤ tt
-    go false false false = lit≤ tt
-
-orders-below : (s : List ℕ) (n : ℕ) → count (isOrder s 0) n + count (isOrder s 1) n + count (isOrder s 2) n ≤ n
-unfolding count
-orders-below s zero = lit≤ tt
-orders-below s (suc n) = omega (arith, orders-below s n, one-order s n)
-
-pub all-fit : (s : List ℕ) → many s 0 + many s 1 + many s 2 ≤ records s
-unfolding many
-all-fit s = orders-below s (records s)
 
 -- where number 1 applies it is given, and where it does not the judgement starts at 2
 first-skip : (p q : ℕ → Bool) (n : ℕ) → p zero ≡ false → ((k : ℕ) → p (suc k) ≡ q k) → first p (suc n) ≡ suc (first q n)

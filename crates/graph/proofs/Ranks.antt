@@ -15,13 +15,14 @@ use lib.Dec.{eqb, ltb, leb}
 use lib.ListN.{length, getD, set, replicate, length-replicate, length-set, getD-replicate}
 use lib.Seq.{getD-set-same, getD-set-other}
 use borrow.Author.Tests.{lt-ltb, ltb-true, ltb-false, le-leb, leb-true, eqb-true, not-false}
-use Rattle.model.specs.Places.{pick, any}
+use Rattle.model.specs.Places.{pick, count, any}
 use Rattle.model.specs.Cycle.{walks, cyclic}
 use Rattle.model.proofs.Bools.{cases, le-or-lt, same-test, both, left-of, right-of}
-use Rattle.model.proofs.Places.{any-intro, any-elim, any-false}
+use Rattle.model.proofs.Places.{any-intro, any-elim, any-false, any-count}
 use Rattle.model.proofs.Tables.{padded-none, padded-past}
 use Rattle.graph.specs.Model.{from, to, asModel}
-use Rattle.graph.specs.Ranks.{turned, Swept, Reached, differs, tops}
+use Rattle.graph.specs.Marks.{atLeast}
+use Rattle.graph.specs.Ranks.{turned, Swept, Reached, differs}
 use Rattle.graph.specs.declared.Graph.{Graph}
 use Rattle.graph.proofs.Edges.{edge-at, edge-place}
 
@@ -149,9 +150,10 @@ module _ (g : Graph) where
   long-end l false r e b L M = M refl
 
   -- and tell whether there is a cycle
-  pub told : (l : List ℕ) → Reached g l → Long g (g .n) l → any (tops l (g .n)) (g .n) ≡ cyclic (asModel g)
-  unfolding cyclic tops asModel
+  pub told : (l : List ℕ) → Reached g l → Long g (g .n) l → not (eqb (count (atLeast l (g .n)) (g .n)) 0) ≡ cyclic (asModel g)
+  unfolding cyclic atLeast asModel
   told l R L =
-      same-test (any (λ v. leb (g .n) (getD l v 0)) (g .n)) (any (walks (asModel g) (g .n)) (g .n))
-      (λ e. let r = any-elim (λ v. leb (g .n) (getD l v 0)) (g .n) e in any-intro (walks (asModel g) (g .n)) (g .n) (r .0) (r .1) (R (r .0) (g .n) (leb-true (g .n) (getD l (r .0) 0) (r .2))))
-      (λ e. let r = any-elim (walks (asModel g) (g .n)) (g .n) e in any-intro (λ v. leb (g .n) (getD l v 0)) (g .n) (r .0) (r .1) (le-leb (g .n) (getD l (r .0) 0) (L (g .n) (omega arith) (r .0) (r .2))))
+      sym (any-count (atLeast l (g .n)) (g .n))
+      ∙ same-test (any (atLeast l (g .n)) (g .n)) (any (walks (asModel g) (g .n)) (g .n))
+      (λ e. let r = any-elim (atLeast l (g .n)) (g .n) e in any-intro (walks (asModel g) (g .n)) (g .n) (r .0) (r .1) (R (r .0) (g .n) (leb-true (g .n) (getD l (r .0) 0) (r .2))))
+      (λ e. let r = any-elim (walks (asModel g) (g .n)) (g .n) e in any-intro (atLeast l (g .n)) (g .n) (r .0) (r .1) (le-leb (g .n) (getD l (r .0) 0) (L (g .n) (omega arith) (r .0) (r .2))))

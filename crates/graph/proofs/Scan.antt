@@ -1,7 +1,7 @@
 -- What a scan carries from record to record is enough: the tests of the code are the rows of the table.
 use mathlib.Core.Path.{_≡_, refl, sym, ap, _∙_, fun-ext}
 use mathlib.Core.Logic.{_⊎_, inl, inr}
-use mathlib.Core.Bool.{Bool, true, false, not, _&&_, _||_, and-false, or-false}
+use mathlib.Core.Bool.{Bool, true, false, _&&_, _||_, and-false, or-false}
 use mathlib.Core.List.{List}
 use Prim.Native.Nat.{ℕ, zero, suc, _+_, _≤_, _<_, max}
 use native.Mathlib.Numerals.{add-one}
@@ -10,7 +10,7 @@ use native.Mathlib.Decide.{ℕ-discrete}
 use lib.Dec.{eqb, ltb}
 use borrow.Author.Tests.{lt-ltb, le-ltb, ne-eqb, eqb-true, eqb-false}
 use Rattle.model.specs.Places.{pick, bit, first, count, any, largest}
-use Rattle.model.proofs.Bools.{cases, le-or-lt, or-neither, not-is-true}
+use Rattle.model.proofs.Bools.{cases, le-or-lt, or-neither}
 use Rattle.model.proofs.Places.{first-none, count-more, any-false}
 use Rattle.graph.specs.File.{records, order, isOrder, many, ordinal}
 use Rattle.graph.specs.Rules.{holds, perRecord, places, rule2, rule3, rule4, rule5, rule6, rule7, rule8, rule9, rule10}
@@ -141,9 +141,9 @@ counts-fine c num h =
     neither (eqb num 4) _ _ (x .0) (neither (eqb num 6) _ _ (y .0) (y .1))
 
 pub none-applies : (s : List ℕ) (c : Counts) → Counted s c
-    → not ((ofCounts c 4 || (ofCounts c 6 || ofCounts c 8)) || any (faulty s) (records s)) ≡ true → (num : ℕ) → 2 ≤ num → num < 11 → applies s num ≡ false
+    → (ofCounts c 4 || (ofCounts c 6 || ofCounts c 8)) || any (faulty s) (records s) ≡ false → (num : ℕ) → 2 ≤ num → num < 11 → applies s num ≡ false
 unfolding applies places
-none-applies s c n h num l u = go (or-neither (ofCounts c 4 || (ofCounts c 6 || ofCounts c 8)) (any (faulty s) (records s)) (not-is-true _ h)) (cases (perRecord num))
+none-applies s c n h num l u = go (or-neither (ofCounts c 4 || (ofCounts c 6 || ofCounts c 8)) (any (faulty s) (records s)) h) (cases (perRecord num))
   where
     go : (ofCounts c 4 || (ofCounts c 6 || ofCounts c 8) ≡ false) × (any (faulty s) (records s) ≡ false) → (perRecord num ≡ true) ⊎ (perRecord num ≡ false)
         → ltb (placeOf s num) (places s num) ≡ false

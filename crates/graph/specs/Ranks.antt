@@ -4,13 +4,12 @@
 --   Swept g at k old new   no rank is lower than it was, and the edges at 0 .. at (k - 1) are swept
 --   Reached g l            no rank is above a walk that ends there
 --   differs a b v          the tables a and b differ at v
---   tops l n v             v has rank n, or more
 use mathlib.Core.Path.{_≡_}
 use mathlib.Core.Bool.{Bool, true, not}
 use mathlib.Core.List.{List}
 use Prim.Native.Nat.{ℕ, _+_, _-_, _≤_, _<_, min}
 use lib.ListN.{length, getD}
-use lib.Dec.{eqb, leb}
+use lib.Dec.{eqb}
 use Rattle.model.specs.Places.{pick}
 use Rattle.model.specs.Cycle.{walks}
 use Rattle.graph.specs.Model.{from, to, asModel}
@@ -29,6 +28,3 @@ Reached g l = (v k : ℕ) → k ≤ getD l v 0 → walks (asModel g) k v ≡ tru
 
 unfoldable pub differs : List ℕ → List ℕ → ℕ → Bool
 differs a b v = not (eqb (getD a v 0) (getD b v 0))
-
-unfoldable pub tops : List ℕ → ℕ → ℕ → Bool
-tops l n v = leb n (getD l v 0)

@@ -1,6 +1,7 @@
 -- What the parts of the reader give each other. Only contracts of private functions cite this: nothing that a caller has to believe.
 --
 --   Counted s c          c holds how many records there are of each kind
+--   Fitting s c          the same, and the counts are within bounds
 --   Before s k p         p holds what a pass has met before record k
 --   ofRecord s num k     the row of a number that is tested for each record
 --   faulty s k           one of these rows holds for record k
@@ -8,16 +9,17 @@
 --   lowestIn a s         the lowest number from a to 10 that applies, with its place; or 11
 --   refusedWith r        a refusal, with the graph beside it
 --   astray g             not exactly one source, or not exactly one sink
+--   lastOf g             the number 11 or 12 that applies to a graph, or 13
 --   takenOf g            the answer of the numbers 11 and 12 for a graph, and the graph beside it
 use mathlib.Core.Path.{_≡_}
 use mathlib.Core.Bool.{Bool, not, _||_}
 use mathlib.Core.List.{List}
-use Prim.Native.Nat.{ℕ, min}
+use Prim.Native.Nat.{ℕ, _+_, _≤_, min}
 use lib.Dec.{eqb, ltb}
 use Rattle.model.specs.Places.{pick, count, largest}
 use Rattle.model.specs.Graph.{source, sink}
 use Rattle.model.specs.Cycle.{cyclic}
-use Rattle.graph.specs.File.{order, isOrder, many, noGraph}
+use Rattle.graph.specs.File.{records, order, isOrder, many, noGraph}
 use Rattle.graph.specs.Model.{asModel}
 use Rattle.graph.specs.Rules.{rule2, rule3, rule5, rule7, rule9, rule10}
 use Rattle.graph.specs.Judge.{placeOf, lowest}
@@ -32,6 +34,13 @@ pub record Counted (s : List ℕ) (c : Counts) : Type 0 where
   pub all-kinds : c .kinds ≡ many s 0
   pub all-vertices : c .n ≡ many s 1
   pub all-edges : c .edges ≡ many s 2
+
+pub record Fitting (s : List ℕ) (c : Counts) : Type 0 where
+  pub counted : Counted s c
+  pub few-kinds : c .kinds ≤ 10
+  pub few-vertices : c .n ≤ 128
+  pub few-edges : c .edges ≤ 1024
+  pub all-fit : c .kinds + c .n + c .edges ≤ records s
 
 pub record Before (s : List ℕ) (k : ℕ) (p : Passed) : Type 0 where
   pub kinds-passed : p .kinds ≡ count (isOrder s 0) k
@@ -62,7 +71,8 @@ refusedWith r = record { answer = Refused r; graph = noGraph }
 unfoldable pub astray : Graph → Bool
 astray g = not (eqb (count (source (asModel g)) (g .n)) 1) || not (eqb (count (sink (asModel g)) (g .n)) 1)
 
+unfoldable pub lastOf : Graph → ℕ
+lastOf g = pick (cyclic (asModel g)) 11 (pick (astray g) 12 13)
+
 unfoldable pub takenOf : Graph → Taken
-takenOf g =
-    pick (cyclic (asModel g)) (refusedWith (record { number = 11; place = 0 }))
-    (pick (astray g) (refusedWith (record { number = 12; place = 0 })) (record { answer = Accepted; graph = g }))
+takenOf g = pick (ltb (lastOf g) 13) (refusedWith (record { number = lastOf g; place = 0 })) (record { answer = Accepted; graph = g })

@@ -7,28 +7,25 @@
 // no rank is above the longest walk that ends there, and after r sweeps none is below a walk of r edges. A cycle makes walks of
 // n edges, and nothing else does: some rank comes to n.
 ghost use mathlib.Core.Path.{_≡_};
-ghost use Prim.Native.Nat.{_+_, _/_, _%_, _<_, _≤_, min, max};
+ghost use Prim.Native.Nat.{_+_, _<_, _≤_, min, max};
 ghost use Rattle.model.specs.Places.{pick, count, any};
 ghost use Rattle.model.specs.Cycle.{cyclic};
 ghost use Rattle.graph.specs.Model.{asModel};
-ghost use Rattle.graph.specs.Steps.{astray};
-ghost use Rattle.graph.specs.Marks.{drawn, stands, Touches};
-ghost use Rattle.graph.specs.Ranks.{turned, Swept, Reached, differs, tops};
+ghost use Rattle.graph.specs.Steps.{astray, lastOf};
+ghost use Rattle.graph.specs.Marks.{Marks, atLeast, drawn, tipOf, touched, alone};
+ghost use Rattle.graph.specs.Ranks.{turned, Swept, Reached, differs};
 use super::file::larger;
 use super::file::one;
 
-// The vertex that an edge comes from.
-fn origin(edge: u16) -> usize
-    ensures { λ r. ⌜ (r ≡ edge / 256) × (r < 256) ⌝ }
+// The end that an edge goes to, or the one that it comes from.
+fn end_of(edge: u16, to: bool) -> usize
+    ensures { λ r. ⌜ (r ≡ tipOf edge to) × (r < 256) ⌝ }
 {
-    (edge / 256) as usize
-}
-
-// The vertex that it goes to.
-fn target(edge: u16) -> usize
-    ensures { λ r. ⌜ (r ≡ edge % 256) × (r < 256) ⌝ }
-{
-    (edge % 256) as usize
+    if to {
+        (edge % 256) as usize
+    } else {
+        (edge / 256) as usize
+    }
 }
 
 fn smaller(x: usize, y: usize) -> usize
@@ -68,8 +65,8 @@ fn sweep(edge: &[u16; 1024], n: usize, edges: usize, back: bool, old: [u8; 256])
     while j < edges {
         let i = turned(back, edges, j);
         let key = edge[i];
-        let from = origin(key);
-        let to = target(key);
+        let from = end_of(key, false);
+        let to = end_of(key, true);
         rank[to] = raised(rank[to], rank[from], from < n, n);
         j += 1;
     }
@@ -89,24 +86,23 @@ fn changed(old: &[u8; 256], new: &[u8; 256]) -> bool
     some
 }
 
-// Whether some vertex has come to rank `n`.
-fn topped(rank: &[u8; 256], n: usize) -> bool
+// How many of the first `n` places have `x` or more.
+fn at_least(table: &[u8; 256], x: u8, n: usize) -> usize
     requires { ⌜ n ≤ 128 ⌝ }
-    ensures { λ r. ⌜ r ≡ any (tops (now (rank .entry)) n) n ⌝ }
+    ensures { λ r. ⌜ (r ≡ count (atLeast (now (table .entry)) x) n) × (r ≤ n) ⌝ }
 {
-    let top = n as u8;
-    let mut some = false;
+    let mut c: usize = 0;
     let mut v = 0;
     while v < n {
-        some = some | (top <= rank[v]);
+        c += one(x <= table[v]);
         v += 1;
     }
-    some
+    c
 }
 
 // Number 11: some walk has as many edges as there are vertices. Sweeps go forwards and backwards in turn: where the numbers of the
 // vertices go along the edges, or all against them, two or three are enough. One that raises nothing is the last.
-pub fn cyclic(edge: &[u16; 1024], n: usize, edges: usize) -> bool
+fn cyclic(edge: &[u16; 1024], n: usize, edges: usize) -> bool
     requires { ⌜ (n ≤ 128) × (edges ≤ 1024) ⌝ }
     ensures { λ r. ⌜ r ≡ cyclic (asModel (drawn (now (edge .entry)) n edges)) ⌝ }
 {
@@ -119,7 +115,7 @@ pub fn cyclic(edge: &[u16; 1024], n: usize, edges: usize) -> bool
         rank = next;
         r += 1;
     }
-    topped(&rank, n)
+    at_least(&rank, n as u8, n) != 0
 }
 
 // 1 where `on` holds, else what was there.
@@ -129,51 +125,49 @@ fn joined(old: u8, on: bool) -> u8
     if on { 1 } else { old }
 }
 
-// Marks of who is entered by an edge, and of who is left by one.
-struct Touched {
-    entered: [u8; 256],
-    left: [u8; 256],
-}
-
-fn touch(edge: &[u16; 1024], n: usize, edges: usize) -> Touched
+// Marks of the vertices that an edge goes to, or with `back` of those that an edge comes from.
+fn marked(edge: &[u16; 1024], n: usize, edges: usize, back: bool) -> [u8; 256]
     requires { ⌜ edges ≤ 1024 ⌝ }
-    ensures { λ r. ⌜ Touches (drawn (now (edge .entry)) n edges) edges r ⌝ }
+    ensures { λ r. ⌜ Marks r (touched (drawn (now (edge .entry)) n edges) back edges) ⌝ }
 {
-    let mut entered = [0u8; 256];
-    let mut left = [0u8; 256];
+    let mut marks = [0u8; 256];
     let mut i = 0;
     while i < edges {
         let key = edge[i];
-        let from = origin(key);
-        let to = target(key);
-        entered[to] = joined(entered[to], from < n);
-        left[from] = joined(left[from], to < n);
+        let near = end_of(key, back);
+        let far = end_of(key, !back);
+        marks[far] = joined(marks[far], near < n);
         i += 1;
     }
-    Touched { entered, left }
+    marks
 }
 
-// How many of the first `n` places have no mark.
-fn unmarked(marks: &[u8; 256], n: usize) -> usize
-    requires { ⌜ n ≤ 128 ⌝ }
-    ensures { λ r. ⌜ r ≡ count (stands (now (marks .entry)) 0) n ⌝ }
+// How many vertices no edge goes to, or with `back` no edge comes from.
+fn lone(edge: &[u16; 1024], n: usize, edges: usize, back: bool) -> usize
+    requires { ⌜ (n ≤ 128) × (edges ≤ 1024) ⌝ }
+    ensures { λ r. ⌜ r ≡ count (alone (drawn (now (edge .entry)) n edges) back) n ⌝ }
 {
-    let mut c: usize = 0;
-    let mut v = 0;
-    while v < n {
-        c += one(marks[v] == 0);
-        v += 1;
-    }
-    c
+    let marks = marked(edge, n, edges, back);
+    n - at_least(&marks, 1, n)
 }
 
 // Number 12: not exactly one source, or not exactly one sink.
-pub fn ends_astray(edge: &[u16; 1024], n: usize, edges: usize) -> bool
+fn ends_astray(edge: &[u16; 1024], n: usize, edges: usize) -> bool
     requires { ⌜ (n ≤ 128) × (edges ≤ 1024) ⌝ }
     ensures { λ r. ⌜ r ≡ astray (drawn (now (edge .entry)) n edges) ⌝ }
 {
-    let t = touch(edge, n, edges);
-    let sources = unmarked(&t.entered, n);
-    let sinks = unmarked(&t.left, n);
+    let sources = lone(edge, n, edges, false);
+    let sinks = lone(edge, n, edges, true);
     (sources != 1) | (sinks != 1)
+}
+
+// The number of these two that applies, or 13 where none does.
+pub fn last_number(edge: &[u16; 1024], n: usize, edges: usize) -> u32
+    requires { ⌜ (n ≤ 128) × (edges ≤ 1024) ⌝ }
+    ensures { λ r. ⌜ r ≡ lastOf (drawn (now (edge .entry)) n edges) ⌝ }
+{
+    if cyclic(edge, n, edges) {
+        return 11;
+    }
+    if ends_astray(edge, n, edges) { 12 } else { 13 }
 }

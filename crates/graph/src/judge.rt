@@ -1,12 +1,11 @@
 // The lowest number, up to 10, that applies, with the first record that it holds for.
 ghost use mathlib.Core.Path.{_≡_};
-ghost use mathlib.Core.Bool.{true, false};
-ghost use Prim.Native.Nat.{ℕ, _<_, _≤_};
+ghost use Prim.Native.Nat.{_<_, _≤_};
 ghost use lib.ListN.{length};
 ghost use Rattle.model.specs.Places.{first, any};
 ghost use Rattle.graph.specs.File.{records};
 ghost use Rattle.graph.specs.Rules.{perRecord, places};
-ghost use Rattle.graph.specs.Judge.{placeOf, applies};
+ghost use Rattle.graph.specs.Judge.{placeOf};
 ghost use Rattle.graph.specs.Steps.{Counted, ofRecord, faulty, lowestIn};
 use super::Refusal;
 use super::file::Counts;
@@ -106,25 +105,17 @@ fn some_fault(file: &[u8], c: Counts) -> bool
     some
 }
 
-// Whether it is seen in one pass that no number up to 10 applies.
-fn clean(file: &[u8], c: Counts) -> bool
-    requires { ⌜ Counted (now file) c ⌝ }
-    ensures { λ r. ⌜ (r ≡ true → (j : ℕ) → 2 ≤ j → j < 11 → applies (now (file .entry)) j ≡ false) ⌝ }
-{
-    let counts = counts_fail(4, c) | (counts_fail(6, c) | counts_fail(8, c));
-    !(counts | some_fault(file, c))
-}
-
-// The same as `by_number`. Most files are without fault, and are passed once.
+// The same as `by_number`; a file without fault is passed once.
 pub fn lowest(file: &[u8], least: u32, c: Counts) -> Refusal
     requires { ⌜ Counted (now file) c × (2 ≤ least) × (least ≤ 11) × (length (now file) ≤ 9320) ⌝ }
     ensures { λ r. ⌜ r ≡ lowestIn least (now (file .entry)) ⌝ }
 {
-    if clean(file, c) {
-        return Refusal {
-            number: 11,
-            place: 0,
-        };
+    let counts = counts_fail(4, c) | (counts_fail(6, c) | counts_fail(8, c));
+    if counts | some_fault(file, c) {
+        return by_number(file, least, c);
     }
-    by_number(file, least, c)
+    Refusal {
+        number: 11,
+        place: 0,
+    }
 }

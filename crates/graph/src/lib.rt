@@ -2,14 +2,17 @@
 ghost use mathlib.Core.Path.{_≡_};
 ghost use Prim.Native.Nat.{_≤_};
 ghost use lib.ListN.{length};
+ghost use Rattle.graph.specs.File.{graphOf};
 ghost use Rattle.graph.specs.Judge.{judgeFrom, takenFrom, readOf};
-ghost use Rattle.graph.specs.Steps.{refusedWith, takenOf};
+ghost use Rattle.graph.specs.Steps.{Fitting, refusedWith, takenOf};
 
 mod cycle;
 mod file;
 mod judge;
 mod lists;
 mod rules;
+
+use file::Counts;
 
 // What an answer says no with: document 01's number, and the place of the record, vertex or instant at fault.
 pub struct Refusal {
@@ -58,22 +61,21 @@ fn refused_whole(number: u32) -> Taken
     refused(Refusal { number, place: 0 })
 }
 
-// The last two numbers, 11 and 12, are said of the graph and not of records: they are tested once its lists are filled.
-fn judged(g: Graph) -> Taken
-    requires { ⌜ (g .n ≤ 128) × (g .edges ≤ 1024) ⌝ }
-    ensures { λ t. ⌜ t ≡ takenOf g ⌝ }
+// The last two numbers, 11 and 12, are said of the graph and not of records: they are tested on its edges, and the graph is made
+// where neither applies.
+fn judged(file: &[u8], c: Counts) -> Taken
+    requires { ⌜ Fitting (now file) c ⌝ }
+    ensures { λ t. ⌜ t ≡ takenOf (graphOf (now (file .entry))) ⌝ }
 {
-    let n = g.n;
-    let edges = g.edges;
-    if cycle::cyclic(&g.edge, n, edges) {
-        return refused_whole(11);
+    let edge = lists::edge_of(file, c.kinds + c.n, c.edges);
+    let number = cycle::last_number(&edge, c.n, c.edges);
+    if number < 13 {
+        return refused_whole(number);
     }
-    if cycle::ends_astray(&g.edge, n, edges) {
-        return refused_whole(12);
-    }
+    let graph = lists::lists(file, c, edge);
     Taken {
         answer: Answer::Accepted,
-        graph: g,
+        graph,
     }
 }
 
@@ -87,8 +89,7 @@ fn take_from(file: &[u8], least: u32) -> Taken
     if found.number < 11 {
         return refused(found);
     }
-    let g = lists::lists(file, c);
-    judged(g)
+    judged(file, c)
 }
 
 // The answer of the numbers from `least` on, for the writer, which judges the file that it would write from number 4 on.

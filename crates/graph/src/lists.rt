@@ -3,7 +3,7 @@ ghost use mathlib.Core.Path.{_≡_};
 ghost use Prim.Native.Nat.{_+_, _≤_};
 ghost use Rattle.model.specs.Places.{padded};
 ghost use Rattle.graph.specs.File.{records, column, words, keys, graphOf, noGraph};
-ghost use Rattle.graph.specs.Steps.{Counted};
+ghost use Rattle.graph.specs.Steps.{Fitting};
 use super::Graph;
 use super::file::Counts;
 use super::file::byte;
@@ -50,7 +50,8 @@ fn wcet_of(file: &[u8], base: usize, n: usize) -> [u32; 128]
     a
 }
 
-fn edge_of(file: &[u8], base: usize, n: usize) -> [u16; 1024]
+// An edge is from * 256 + to.
+pub fn edge_of(file: &[u8], base: usize, n: usize) -> [u16; 1024]
     requires { ⌜ (n ≤ 1024) × (base + n ≤ records (now file)) ⌝ }
     ensures { λ r. ⌜ r ≡ padded 1024 (keys (now (file .entry)) base) n ⌝ }
 {
@@ -63,9 +64,9 @@ fn edge_of(file: &[u8], base: usize, n: usize) -> [u16; 1024]
     a
 }
 
-// The lists of a file whose counts are within bounds.
-pub fn lists(file: &[u8], c: Counts) -> Graph
-    requires { ⌜ Counted (now file) c × (c .kinds ≤ 10) × (c .n ≤ 128) × (c .edges ≤ 1024) × (c .kinds + c .n + c .edges ≤ records (now file)) ⌝ }
+// The lists of a file whose counts are within bounds, and whose edges are listed already.
+pub fn lists(file: &[u8], c: Counts, edge: [u16; 1024]) -> Graph
+    requires { ⌜ Fitting (now file) c × (edge ≡ graphOf (now file) .edge) ⌝ }
     ensures { λ r. ⌜ r ≡ graphOf (now (file .entry)) ⌝ }
 {
     let kinds = c.kinds;
@@ -74,7 +75,6 @@ pub fn lists(file: &[u8], c: Counts) -> Graph
     let cores = cores_of(file, 0, kinds);
     let kind = kind_of(file, kinds, n);
     let wcet = wcet_of(file, kinds, n);
-    let edge = edge_of(file, kinds + n, edges);
     Graph {
         kinds,
         n,

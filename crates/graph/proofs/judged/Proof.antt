@@ -1,53 +1,58 @@
-use mathlib.Core.Path.{refl, sym, _∙_}
-use Rattle.graph.specs.Steps.{takenOf}
-use Rattle.graph.proofs.Marks.{drawn-cyclic, drawn-astray}
+use mathlib.Core.Path.{_≡_, refl, sym, ap, _∙_}
+use borrow.Author.Tests.{lt-ltb, le-ltb}
+use Rattle.graph.specs.File.{graphOf}
+use Rattle.graph.specs.Steps.{lastOf, takenOf}
+use Rattle.graph.proofs.Marks.{drawn-last}
 use borrow.Author.Needs.{needs}
 use Rattle.graph.proofs.judged.Statement.{statement}
 use Rattle.graph.proofs.judged.Tie as tie
 
-cyclic-requires : tie.Need-cyclic-requires
-cyclic-requires c κs = search needs
+add-edge-of : tie.Need-add-edge-of
+add-edge-of c = search needs
+
+edge-of-requires : tie.Need-edge-of-requires
+edge-of-requires c κs = search needs
+
+last-number-requires : tie.Need-last-number-requires
+last-number-requires c κs = search needs
 
 refused-whole-requires : tie.Need-refused-whole-requires
 refused-whole-requires c κs = search needs
 
+-- the edges that are listed are the graph's, so the number is said of the graph
+listed : (c : tie.After-edge-of) → c .edge-of .result ≡ graphOf (c .before .before .before .args .file .now) .edge
+unfolding graphOf
+listed c = let n = c .before .before .before .pre .counted in rw (c .edge-of .ensures, n .all-kinds, n .all-vertices, n .all-edges)
+
+number-is : (c : tie.After-last-number) → c .last-number .result ≡ lastOf (graphOf (c .before .before .before .before .before .args .file .now))
+number-is c =
+    let a = c .before .before .before .before .before in
+    let n = a .pre .counted in
+    c .last-number .ensures ∙ rw (listed (c .before .before), n .all-vertices, n .all-edges) (unfold graphOf in drawn-last (graphOf (a .args .file .now)))
+
 returns : tie.Need-returns
 unfolding takenOf
 returns c =
-    let b = c .before .before in
-    let g = b .before .before .before .args .t1 in
-    rw (sym (drawn-cyclic g) ∙ sym (b .cyclic .ensures) ∙ c .before .if1 .taken) (c .refused-whole .ensures)
+    let e = number-is (c .before .before) in
+    rw (← e, lt-ltb _ _ (c .before .if1 .taken)) (c .refused-whole .ensures)
 
-ends-astray-requires : tie.Need-ends-astray-requires
-ends-astray-requires c κs = search needs
-
-refused-whole-requires-2 : tie.Need-refused-whole-requires-2
-refused-whole-requires-2 c κs = search needs
+lists-requires : tie.Need-lists-requires
+lists-requires c κs = (c .before .before .before .before .before .before .pre, listed (c .before .before .before))
 
 returns-2 : tie.Need-returns-2
 unfolding takenOf
 returns-2 c =
-    let a = c .before .before in
-    let b = a .before .before .before .before in
-    let g = b .before .before .before .args .t1 in
-    rw (sym (drawn-cyclic g) ∙ sym (b .cyclic .ensures) ∙ a .before .before .before .if1 .left, sym (drawn-astray g) ∙ sym (a .ends-astray .ensures) ∙ c .before .if2 .taken) (c .refused-whole2 .ensures)
-
-returns-3 : tie.Need-returns-3
-unfolding takenOf
-returns-3 c =
-    let a = c .before in
-    let b = a .before .before .before .before in
-    let g = b .before .before .before .args .t1 in
-    rw (sym (drawn-cyclic g) ∙ sym (b .cyclic .ensures) ∙ a .before .before .before .if1 .left, sym (drawn-astray g) ∙ sym (a .ends-astray .ensures) ∙ c .if2 .left) refl
+    let e = number-is (c .before .before) in
+    rw (← e, le-ltb _ _ (c .before .if1 .left), c .lists .ensures) refl
 
 pub judged-spec : {M : Type 1} → statement M
 judged-spec =
     tie.close
     (tie.spec
-    cyclic-requires
+    add-edge-of
+    edge-of-requires
+    last-number-requires
     refused-whole-requires
     returns
-    ends-astray-requires
-    refused-whole-requires-2
-    returns-2
-    returns-3)
+    lists-requires
+    returns-2)

@@ -48,8 +48,11 @@ loop-again c =
     let b : l .r < a .n = ltb-true (l .r) (a .n) (right-of (l .moved) (ltb (l .r) (a .n)) (c .before .before .before .before .loop-test .taken)) in
     (search needs, s .ensures .1, long-more g back (l .rank) (s .result) (s .ensures .0) (l .r) b (l .inv .2), λ e. long-still g back (l .rank) (s .result) (s .ensures .0) (omega arith) (sym (c .changed .ensures) ∙ e))
 
-topped-requires : tie.Need-topped-requires Inv-loop μ-loop
-topped-requires c κs = search needs
+cast-at-least : tie.Need-cast-at-least Inv-loop μ-loop
+cast-at-least c = search needs
+
+at-least-requires : tie.Need-at-least-requires Inv-loop μ-loop
+at-least-requires c κs = search needs
 
 returns : tie.Need-returns Inv-loop μ-loop
 unfolding drawn
@@ -57,7 +60,7 @@ returns c =
     let a = c .before .before .before .before .args in
     let l = c .before .before .before .loop in
     let g = drawn (a .edge .now) (a .n) (a .edges) in
-    c .topped .ensures ∙ told g (l .rank) (l .inv .1) (long-end g (l .rank) (l .moved) (l .r) (c .before .before .loop-test .left) (l .inv .0) (l .inv .2) (l .inv .3))
+    rw (c .at-least .ensures .0) (told g (l .rank) (l .inv .1) (long-end g (l .rank) (l .moved) (l .r) (c .before .before .loop-test .left) (l .inv .0) (l .inv .2) (l .inv .3)))
 
 pub cyclic-spec : {M : Type 1} → statement M
 cyclic-spec =
@@ -71,5 +74,6 @@ cyclic-spec =
     add-r
     loop-less
     loop-again
-    topped-requires
+    cast-at-least
+    at-least-requires
     returns)

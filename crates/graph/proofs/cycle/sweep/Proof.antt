@@ -29,11 +29,11 @@ mul-key c = search needs
 element-copy-out-key : tie.Need-element-copy-out-key Inv-loop μ-loop
 element-copy-out-key c = search needs
 
-origin-requires : tie.Need-origin-requires Inv-loop μ-loop
-origin-requires c κs = search needs
+end-of-requires : tie.Need-end-of-requires Inv-loop μ-loop
+end-of-requires c κs = search needs
 
-target-requires : tie.Need-target-requires Inv-loop μ-loop
-target-requires c κs = search needs
+end-of-requires-2 : tie.Need-end-of-requires-2 Inv-loop μ-loop
+end-of-requires-2 c κs = search needs
 
 array-read-raised : tie.Need-array-read-raised Inv-loop μ-loop
 array-read-raised c = search needs
@@ -61,7 +61,7 @@ loop-again c =
     let t = c .before .before .before .before .turned in
     let g = drawn (a .edge .now) (a .n) (a .edges) in
     let byte : to g (t .result) < 256 = omega arith in
-    (search needs, rw (c .raised .ensures, c .before .target .ensures .0, c .before .before .origin .ensures .0) (swept-more g (l .rank) (t .result) (l .inv .1 .size) byte (turned (a .back) (a .edges)) (l .j) (a .old) (sym (t .ensures .0)) (l .inv .1)), rw (c .raised .ensures, c .before .target .ensures .0, c .before .before .origin .ensures .0) (reached-more g (l .rank) (t .result) (l .inv .1 .size) byte (t .ensures .1) (l .inv .2)))
+    (search needs, rw (c .raised .ensures, c .before .end-of2 .ensures .0, c .before .before .end-of .ensures .0) (swept-more g (l .rank) (t .result) (l .inv .1 .size) byte (turned (a .back) (a .edges)) (l .j) (a .old) (sym (t .ensures .0)) (l .inv .1)), rw (c .raised .ensures, c .before .end-of2 .ensures .0, c .before .before .end-of .ensures .0) (reached-more g (l .rank) (t .result) (l .inv .1 .size) byte (t .ensures .1) (l .inv .2)))
 
 returns : tie.Need-returns Inv-loop μ-loop
 returns c =
@@ -78,8 +78,8 @@ sweep-spec =
     turned-requires
     mul-key
     element-copy-out-key
-    origin-requires
-    target-requires
+    end-of-requires
+    end-of-requires-2
     array-read-raised
     array-read-raised-2
     raised-requires

@@ -2,17 +2,17 @@ use Prim.Native.Nat.{_≤_, _-_}
 use mathlib.Core.Path.{_≡_, refl}
 use native.Mathlib.Omega.{arith}
 use Rattle.model.specs.Places.{count}
-use Rattle.graph.specs.Marks.{stands}
+use Rattle.graph.specs.Marks.{atLeast}
 use Rattle.model.proofs.Places.{count-more}
 use borrow.Author.Needs.{needs}
-use Rattle.graph.proofs.cycle.unmarked.Statement.{statement}
-use Rattle.graph.proofs.cycle.unmarked.Tie as tie
+use Rattle.graph.proofs.cycle.at_least.Statement.{statement}
+use Rattle.graph.proofs.cycle.at_least.Tie as tie
 
 abbrev Inv-loop : tie.InvT-loop
-Inv-loop marks n c₀ v₀ c v = (v ≤ n) × (c ≡ count (stands marks 0) v) × (c ≤ v)
+Inv-loop table x n c₀ v₀ c v = (v ≤ n) × (c ≡ count (atLeast table x) v) × (c ≤ v)
 
 abbrev μ-loop : tie.MeasureT-loop
-μ-loop marks n c₀ v₀ c v = n - v
+μ-loop table x n c₀ v₀ c v = n - v
 
 loop-holds : tie.Need-loop-holds Inv-loop μ-loop
 unfolding count
@@ -34,16 +34,16 @@ loop-less : tie.Need-loop-less Inv-loop μ-loop
 loop-less c = search needs
 
 loop-again : tie.Need-loop-again Inv-loop μ-loop
-unfolding stands
+unfolding atLeast
 loop-again c = (search needs, simp (count-more, ← c .before .before .before .loop .inv .1, c .one .ensures .0), search needs)
 
 returns : tie.Need-returns Inv-loop μ-loop
 returns c =
     let e : c .before .loop .v ≡ c .before .before .args .n = omega arith in
-    rw (← e) (c .before .loop .inv .1)
+    (rw (← e) (c .before .loop .inv .1), omega arith)
 
-pub unmarked-spec : {M : Type 1} → statement M
-unmarked-spec =
+pub at-least-spec : {M : Type 1} → statement M
+at-least-spec =
     tie.close
     (tie.spec
     Inv-loop
