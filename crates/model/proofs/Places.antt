@@ -7,8 +7,8 @@ use native.Mathlib.Nat.{le-of-suc-le-suc, not-suc-le-zero}
 use native.Mathlib.Numerals.{add-one}
 use native.Mathlib.Omega.{arith}
 use native.Mathlib.Decide.{ℕ-discrete}
-use lib.Dec.{ltb}
-use borrow.Author.Tests.{lt-ltb, le-ltb}
+use lib.Dec.{eqb, ltb}
+use borrow.Author.Tests.{lt-ltb, le-ltb, ne-eqb, eq-eqb}
 use Rattle.model.specs.Places.{pick, bit, first, count, any, every}
 use Rattle.model.proofs.Bools.{clash, cases, le-or-lt, not-true, both, left-of, right-of, or-left, or-right, or-cases, or-neither, bit-one, bit-zero, bit-le, bit-mono}
 
@@ -239,6 +239,14 @@ any-none p n h = not-true (any p n) (λ e. let r = any-elim p n e in clash (r .2
 
 pub any-false : (p : ℕ → Bool) (n k : ℕ) → k < n → any p n ≡ false → p k ≡ false
 any-false p n k l h = not-true (p k) (λ e. clash (any-intro p n k l e) h)
+
+-- some place holds just where the count is not 0
+pub any-count : (p : ℕ → Bool) (n : ℕ) → any p n ≡ not (eqb (count p n) 0)
+any-count p n = go (cases (any p n))
+  where
+    go : (any p n ≡ true) ⊎ (any p n ≡ false) → any p n ≡ not (eqb (count p n) 0)
+    go (inl e) = let r = any-elim p n e in rw (e, ne-eqb (count p n) 0 (λ z. omega (arith, count-some p n (r .0) (r .1) (r .2)))) refl
+    go (inr e) = rw (e, eq-eqb (count p n) 0 (count-none p n (λ k l. any-false p n k l e))) refl
 
 pub every-at : (p : ℕ → Bool) (n : ℕ) → every p n ≡ true → (v : ℕ) → v < n → p v ≡ true
 unfolding every
