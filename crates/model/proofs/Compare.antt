@@ -22,7 +22,7 @@ unfolding scaled
 scaled-most {G} W p (complete s c) =
     omega (
       arith,
-      along-path W (λ v. G .wcet v * (PARTS - PARTS / G .cores (G .kind v))) (λ v. G .wcet v * (PARTS - PARTS / mostCores G)) c
+      along-path W (scaled G) (λ v. G .wcet v * (PARTS - PARTS / mostCores G)) c
           (λ v k. mul-le-mul-left (G .wcet v)
           (omega (arith, share-falls PARTS (G .cores (G .kind v)) (mostCores G) (W .some-core (G .kind v) (W .kind-known v k)) (most-cores G (G .kind v) (W .kind-known v k))))),
       along-scale (G .wcet) (PARTS - PARTS / mostCores G) p,

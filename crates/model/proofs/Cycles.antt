@@ -184,25 +184,31 @@ around W x (suc k) =
     let t = carried W x (s .0) (s .2) in
     (t .0, omega (arith, s .1, t .1), t .2)
 
--- THEOREM. The test says that there is a cycle exactly where there is a closed walk.
-pub cyclic-walk : {G : Graph} → WellFormed G → (v : ℕ) → Walk G v v → cyclic G ≡ true
-unfolding cyclic
-cyclic-walk {G} W v x =
-    let s = around W x (suc (G .n)) in
-    let e : s .0 ≡ (s .0 - suc (G .n)) + suc (G .n) = omega (arith, s .1) in
-    let t = shorter G (s .0 - suc (G .n)) (suc (G .n)) v (rw e at (s .2)) in
-    let p = walks-last G (G .n) (t .0) (t .1) in
-    any-intro (walks G (G .n)) (G .n) (p .0) (W .from (p .0) (t .0) (p .1)) (p .2)
+-- so walks of every number of edges
+any-many : {G : Graph} {v : ℕ} → WellFormed G → Walk G v v → (r : ℕ) → (u : ℕ) × (u < G .n) × (walks G r u ≡ true)
+any-many {G} {v} W x r =
+    let s = around W x (suc r) in
+    let e : s .0 ≡ (s .0 - suc r) + suc r = omega (arith, s .1) in
+    let t = shorter G (s .0 - suc r) (suc r) v (rw e at (s .2)) in
+    let p = walks-last G r (t .0) (t .1) in
+    (p .0, W .from (p .0) (t .0) (p .1), p .2)
 
+-- and a walk of as many edges as there are vertices has more ranks to climb than there are
+too-many : {G : Graph} → WellFormed G → (r v : ℕ) → v < G .n → walks G r v ≡ true → G .n ≤ r → (u : ℕ) × Walk G u u
+too-many {G} W r v l t m = go (cycle-or W)
+  where
+    go : Acyclic G ⊎ ((u : ℕ) × Walk G u u) → (u : ℕ) × Walk G u u
+    go (inr x) = x
+    go (inl A) = absurd (omega (arith, walks-rank (ranked W A) r v t, rank-below W A v l))
+
+-- THEOREM. The test says that there is a cycle exactly where there is a closed walk.
 pub walk-cyclic : {G : Graph} → WellFormed G → cyclic G ≡ true → (v : ℕ) × Walk G v v
 unfolding cyclic
-walk-cyclic {G} W t = go (cycle-or W)
-  where
-    go : Acyclic G ⊎ ((v : ℕ) × Walk G v v) → (v : ℕ) × Walk G v v
-    go (inr x) = x
-    go (inl A) =
-        let s = any-elim (walks G (G .n)) (G .n) t in
-        absurd (omega (arith, walks-rank (ranked W A) (G .n) (s .0) (s .2), rank-below W A (s .0) (s .1)))
+walk-cyclic {G} W t = let s = any-elim _ (G .n) t in too-many W _ (s .0) (s .1) (s .2) (omega arith)
+
+pub cyclic-walk : {G : Graph} → WellFormed G → (v : ℕ) → Walk G v v → cyclic G ≡ true
+unfolding cyclic
+cyclic-walk {G} W v x = let s = any-many W x (G .n) in any-intro _ (G .n) (s .0) (s .1) (s .2)
 
 pub acyclic-test : {G : Graph} → WellFormed G → cyclic G ≡ false → Acyclic G
 acyclic-test W f v x = clash (cyclic-walk W v x) f

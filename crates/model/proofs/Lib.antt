@@ -13,6 +13,7 @@ pub mod Finished
 pub mod Tests
 pub mod Potential
 pub mod Tick
+pub mod Same
 -- The bounds: parts of a tick, the largest sum along a path, NEW-B-1 and OLD-B:
 pub mod Shares
 pub mod Longest
@@ -20,6 +21,8 @@ pub mod NewB1
 pub mod Compare
 -- The theorem of demand 3:
 pub mod Demand3
+-- Schedules that name their cores: that they are the work-conserving ones, and demand 3 for them:
+pub mod Cores
 -- The list schedule: it is work conserving, it ends, and it can leap:
 pub mod Listed
 pub mod Leap

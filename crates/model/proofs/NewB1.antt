@@ -84,8 +84,7 @@ module _ {G : Graph} (W : WellFormed G) (A : Acyclic G) {S : Schedule} (C : Work
   at-start h p c =
       omega (
         arith,
-        along-path W (λ v. S .time v * (PARTS - PARTS / G .cores (G .kind v))) (λ v. G .wcet v * (PARTS - PARTS / G .cores (G .kind v))) c
-            (λ v l. mul-le-mul-right (PARTS - PARTS / G .cores (G .kind v)) (h v l)),
+        along-path W (λ v. S .time v * toll G v) (scaled G) c (λ v l. mul-le-mul-right (toll G v) (h v l)),
         sum-mono (λ v. S .time v * (PARTS / G .cores (G .kind v))) (λ v. G .wcet v * (PARTS / G .cores (G .kind v))) (G .n)
             (λ v l. mul-le-mul-right (PARTS / G .cores (G .kind v)) (h v l)),
         volume-by-vertex W,

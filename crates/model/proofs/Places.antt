@@ -179,6 +179,26 @@ some-counted p n l = go (all-or-some (λ i. p i ≡ false) (λ i. p i ≡ true) 
     go (inl f) = absurd (omega (arith, count-none p n f))
     go (inr r) = r
 
+-- a place at which p holds has a number among them, how many stand below it: each number below the count is some place's, and no two share one
+pub count-nth : (p : ℕ → Bool) (n j : ℕ) → j < count p n → (i : ℕ) × (i < n) × (p i ≡ true) × (count p i ≡ j)
+unfolding count
+count-nth p zero j l = absurd (omega arith)
+count-nth p (suc n) j l = go (le-or-lt (count p n) j) (cases (p n)) (count-nth p n j)
+  where
+    go : (count p n ≤ j) ⊎ (j < count p n) → (p n ≡ true) ⊎ (p n ≡ false) → (j < count p n → (i : ℕ) × (i < n) × (p i ≡ true) × (count p i ≡ j))
+        → (i : ℕ) × (i < suc n) × (p i ≡ true) × (count p i ≡ j)
+    go (inr m) e ih = let r = ih m in (r .0, omega (arith, r .1), r .2, r .3)
+    go (inl m) (inl e) ih = (n, omega arith, e, omega (arith, bit-one (p n) e))
+    go (inl m) (inr e) ih = absurd (omega (arith, bit-zero (p n) e))
+
+pub count-apart : (p : ℕ → Bool) (i k : ℕ) → p i ≡ true → p k ≡ true → count p i ≡ count p k → i ≡ k
+count-apart p i k e f same = go (le-or-lt i k) (le-or-lt k i)
+  where
+    go : (i ≤ k) ⊎ (k < i) → (k ≤ i) ⊎ (i < k) → i ≡ k
+    go (inr l) x = absurd (omega (arith, count-up p (suc k) i l, count-there p k f))
+    go (inl l) (inr m) = absurd (omega (arith, count-up p (suc i) k m, count-there p i e))
+    go (inl l) (inl m) = omega arith
+
 -- the first place apart from the others
 pub count-shift : (p : ℕ → Bool) (n : ℕ) → count p (suc n) ≡ bit (p 0) + count (λ i. p (suc i)) n
 unfolding count
@@ -247,6 +267,18 @@ any-count p n = go (cases (any p n))
     go : (any p n ≡ true) ⊎ (any p n ≡ false) → any p n ≡ not (eqb (count p n) 0)
     go (inl e) = let r = any-elim p n e in rw (e, ne-eqb (count p n) 0 (λ z. omega (arith, count-some p n (r .0) (r .1) (r .2)))) refl
     go (inr e) = rw (e, eq-eqb (count p n) 0 (count-none p n (λ k l. any-false p n k l e))) refl
+
+-- a test that holds at one place at most is counted by whether it holds
+pub count-any : (p : ℕ → Bool) (n : ℕ) → ((i k : ℕ) → i < n → k < n → p i ≡ true → p k ≡ true → i ≡ k) → count p n ≡ bit (any p n)
+count-any p n h = go (cases (any p n)) (le-or-lt (count p n) 1)
+  where
+    go : (any p n ≡ true) ⊎ (any p n ≡ false) → (count p n ≤ 1) ⊎ (1 < count p n) → count p n ≡ bit (any p n)
+    go (inr e) x = rw e (count-none p n (λ k l. any-false p n k l e))
+    go (inl e) (inl l) = let r = any-elim p n e in rw e (omega (arith, count-some p n (r .0) (r .1) (r .2)))
+    go (inl e) (inr l) =
+        let a = count-nth p n 0 (omega arith) in
+        let b = count-nth p n 1 l in
+        absurd (omega (arith, a .3, b .3, ap (count p) (h (a .0) (b .0) (a .1) (b .1) (a .2) (b .2))))
 
 pub every-at : (p : ℕ → Bool) (n : ℕ) → every p n ≡ true → (v : ℕ) → v < n → p v ≡ true
 unfolding every

@@ -34,6 +34,6 @@ exact x m h e = ap (λ (y : ℕ). x * y / m) (sym e) ∙ (ap (λ (y : ℕ). y / 
 pub volume-by-vertex : {G : Graph} → WellFormed G → volume G ≡ sum (λ v. G .wcet v * (PARTS / G .cores (G .kind v))) (G .n)
 unfolding volume vol
 volume-by-vertex {G} W =
-    sum-ext (λ s. vol G s * PARTS / G .cores s) (λ s. ofKind (G .kind) (G .wcet) (G .n) s * (PARTS / G .cores s)) (G .kinds)
+    sum-ext _ (λ s. ofKind (G .kind) (G .wcet) (G .n) s * (PARTS / G .cores s)) (G .kinds)
     (λ s l. exact (vol G s) (G .cores s) (W .some-core s l) (share-exact W s l))
     ∙ by-kind (G .kind) (G .wcet) (λ s. PARTS / G .cores s) (G .n) (G .kinds) (W .kind-known)

@@ -1,4 +1,4 @@
--- Laws of `sum`, `largest` and `along`; a sum over kinds as one over vertices.
+-- Laws of `sum`, `largest` and `along`; a count as a sum, and pairs counted on either side; a sum over kinds as one over vertices.
 use mathlib.Core.Path.{_≡_, refl, ap, sym, _∙_}
 use mathlib.Core.List.{List, [], _∷_}
 use mathlib.Core.Bool.{Bool, true, false}
@@ -9,8 +9,8 @@ use native.Mathlib.Omega.{arith}
 use native.Mathlib.Decide.{ℕ-discrete}
 use lib.Dec.{eqb}
 use borrow.Author.Tests.{eq-eqb, ne-eqb}
-use Rattle.model.specs.Places.{pick, bit, count, sum, largest, along}
-use Rattle.model.proofs.Bools.{cases}
+use Rattle.model.specs.Places.{pick, bit, count, any, sum, largest, along}
+use Rattle.model.proofs.Places.{count-any}
 
 pub sum-mono : (f g : ℕ → ℕ) (n : ℕ) → ((v : ℕ) → v < n → f v ≤ g v) → sum f n ≤ sum g n
 unfolding sum
@@ -60,6 +60,29 @@ sum-most f c (suc n) h = omega (arith, sum-most f c n (λ v l. h v (omega arith)
 pub sum-more : (f : ℕ → ℕ) (n : ℕ) → sum f (suc n) ≡ sum f n + f n
 unfolding sum
 sum-more f n = refl
+
+-- ---- sums and counts
+
+pub sum-swap : (f : ℕ → ℕ → ℕ) (m n : ℕ) → sum (λ v. sum (λ j. f j v) m) n ≡ sum (λ j. sum (f j) n) m
+unfolding sum
+sum-swap f m zero = sym (sum-zero (λ j. sum (f j) 0) m (λ j l. refl))
+sum-swap f m (suc n) = omega (arith, sum-swap f m n, sum-add (λ j. sum (f j) n) (λ j. f j n) m)
+
+pub count-sum : (p : ℕ → Bool) (n : ℕ) → count p n ≡ sum (λ i. bit (p i)) n
+unfolding count sum
+count-sum p zero = refl
+count-sum p (suc n) = omega (arith, count-sum p n)
+
+-- Where p pairs the places below m with places below n, none with two, as many are paired on one side as on the other: both are the number of pairs.
+module _ (p : ℕ → ℕ → Bool) (m n : ℕ) (once : (j u v : ℕ) → j < m → u < n → v < n → p j u ≡ true → p j v ≡ true → u ≡ v)
+    (at-once : (j k v : ℕ) → j < m → k < m → v < n → p j v ≡ true → p k v ≡ true → j ≡ k) where
+  pub count-pairs : count (λ v. any (λ j. p j v) m) n ≡ count (λ j. any (p j) n) m
+  count-pairs =
+      count-sum _ n
+      ∙ sum-ext _ _ n (λ v l. sym (count-any (λ j. p j v) m (λ j k a b x y. at-once j k v a b l x y)) ∙ count-sum (λ j. p j v) m)
+      ∙ sum-swap (λ j v. bit (p j v)) m n
+      ∙ sum-ext _ _ m (λ j l. sym (count-sum (p j) n) ∙ count-any (p j) n (λ u v a b x y. once j u v l a b x y))
+      ∙ sym (count-sum _ m)
 
 -- ---- the largest
 

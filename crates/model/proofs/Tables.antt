@@ -1,12 +1,12 @@
--- Laws of `table` and `padded`.
+-- Laws of `table` and `padded`, and of a list that is laid over the first places of another.
 use mathlib.Core.Path.{_≡_, refl, sym, ap, _∙_}
 use mathlib.Core.List.{List, [], _∷_, _++_, append-assoc}
 use Prim.Native.Nat.{ℕ, zero, suc, _+_, _-_, _≤_, _<_}
 use native.Mathlib.Numerals.{add-one}
 use native.Mathlib.Omega.{arith}
 use native.Mathlib.Decide.{ℕ-discrete}
-use lib.ListN.{length, getD, take, set, replicate, length-append, length-replicate, List·getD-append}
-use lib.Seq.{set-at, take-at, getD-at, getD-append-add}
+use lib.ListN.{length, getD, take, drop, set, replicate, length-append, length-replicate, List·getD-append}
+use lib.Seq.{set-at, take-at, getD-at, getD-append-add, drop-cons}
 use Rattle.model.specs.Places.{table, padded}
 
 pub table-length : (f : ℕ → ℕ) (n : ℕ) → length (table f n) ≡ n
@@ -60,3 +60,15 @@ unfolding padded
 padded-past l f n i h =
     let e : i ≡ length (table f n) + (i - n) = omega (arith, table-length f n) in
     rw e (getD-append-add (table f n) (replicate (l - n) 0) (i - n) 0 ∙ zeros (l - n) (i - n))
+
+-- one place more is laid
+pub set-next : (old p : List ℕ) (v n : ℕ) → length p ≡ n → n < length old → set (p ++ drop n old) n v ≡ (p ++ (v ∷ [])) ++ drop (n + 1) old
+set-next old p v n e l =
+    ap (λ (q : List ℕ). set (p ++ q) n v) (drop-cons old n 0 l)
+    ∙ set-at p (getD old n 0) (drop (suc n) old) v n e
+    ∙ sym (append-assoc p (v ∷ []) (drop (suc n) old))
+    ∙ ap (λ (k : ℕ). (p ++ (v ∷ [])) ++ drop k old) (sym (add-one n))
+
+pub table-next : (f : ℕ → ℕ) (n : ℕ) (old : List ℕ) → n < length old → set (table f n ++ drop n old) n (f n) ≡ table f (n + 1) ++ drop (n + 1) old
+unfolding table
+table-next f n old l = rw (add-one n) (rw add-one at (set-next old (table f n) (f n) n (table-length f n) l))

@@ -34,7 +34,7 @@ module _ {G : Graph} (W : WellFormed G) (A : Acyclic G) {S : Schedule} (C : Work
     (r : Ready G (left S t) u) (l : u < G .n) where
   module _ (x : S .runs t u ≡ false) where
     -- a ready vertex that does not run: all cores of its kind are busy
-    full : count (runsOf G S t (G .kind u)) (G .n) ≡ G .cores (G .kind u)
+    pub full : count (runsOf G S t (G .kind u)) (G .n) ≡ G .cores (G .kind u)
     full =
         let R = ready-tells W (left S t) A in
         omega (

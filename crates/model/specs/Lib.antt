@@ -5,4 +5,5 @@ pub mod Cycle
 pub mod Path
 pub mod Bounds
 pub mod Schedule
+pub mod Placing
 pub mod ListSchedule
