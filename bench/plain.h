@@ -1,4 +1,4 @@
-/* The planner's work in plain C, to be timed beside the proved one: no proofs, arrays on the stack, the refusals 1 to 15. */
+/* The planner's work in plain C, to be timed beside the proved one: no proofs, arrays on the stack, the refusals 1 to 16. */
 #ifndef PLAIN_H
 #define PLAIN_H
 
@@ -34,9 +34,26 @@ struct plain_finish {
     uint64_t finish;
 };
 
+struct plain_record {
+    size_t n;
+    uint64_t instant;
+    uint32_t left[VERTICES];
+    uint64_t ran[2]; /* bit v % 64 of word v / 64: v ran in the last tick and is unfinished */
+};
+
+/* `moved` is 1 where the tick moved the run; of a start it says nothing. */
+struct plain_step {
+    uint32_t number, place, moved;
+    struct plain_record run;
+};
+
 struct plain_graph plain_read(const uint8_t *file, size_t length);
+struct plain_count plain_write(const uint8_t *cores, size_t kinds, const uint8_t *kind, size_t n, const uint32_t *wcet, size_t wcets,
+                               const uint16_t *edge, size_t edges, uint8_t *out, size_t room);
 struct plain_bounds plain_bounds(const uint8_t *file, size_t length);
 struct plain_count plain_path(const uint8_t *file, size_t length, uint8_t *out, size_t room);
+struct plain_step plain_start(const uint8_t *file, size_t length, const uint32_t *times, size_t count);
+struct plain_step plain_tick(struct plain_record run, const uint8_t *file, size_t length);
 struct plain_finish plain_run(const uint8_t *file, size_t length, const uint32_t *times, size_t count, uint32_t *finishes, size_t room);
 
 #endif

@@ -1,15 +1,26 @@
 /*
- * The planner for C, C++ and, through the same declarations, Rust. Link target/staticlib/libplanner.a (x86-64).
+ * The planner for C (C11 or later), C++ (C++11 or later) and, through the same declarations, Rust. Link target/staticlib/libplanner.a, which is
+ * x86-64 code and wants memcpy and memset of the C library and nothing else.
  *
- * Lists. A list is a pointer and then a length, counted in elements. A pointer is never null, not even for an empty list, and is aligned
- * for its element; a list that is written overlaps nothing else that is lent to the same call. That is all a caller owes: whatever stands
- * in the lists and in a record, every function returns an answer.
- *
- * Graphs. A graph is the bytes of its file: records of 8 bytes, 9,296 bytes at most (10 types, 128 vertices, 1,024 edges).
+ * Graphs. A graph is the bytes of its file: records of 8 bytes, which docs/FILE.md describes.
  *
  * Answers. Each begins with `number` and `place`. Number 0, at place 0, is no refusal. Otherwise docs/REFUSALS.md says what the number
  * means and what the place counts: the lowest number that applies is given, with the first place it holds for. On a refusal nothing lent
  * has changed: every list and record holds what it held. On success the places of a lent list past the answer also keep what they held.
+ * Bytes of padding in an answer may be anything, so that answers are compared field by field and not by memcmp.
+ *
+ * What a caller owes. Nothing checks any of this.
+ * - A list is a pointer and then a length, counted in elements. So many elements lie there, aligned for their type. Of an empty list the
+ *   pointer isn't looked at: it may be null. A pointer to a run record is never null.
+ * - A list or record that is written (a parameter without `const`) overlaps nothing else that is lent to the same call. Lists that are only
+ *   read may overlap each other.
+ * - Until the call returns, nobody else changes what is lent to it, or reads what it writes.
+ * - The stack has the room that PLANNER_STACK_.. says.
+ * That is all: whatever stands in the lists and in a record, every function returns an answer. A list that is written may be uninitialised,
+ * since no answer depends on what it held. All else that is lent is read.
+ *
+ * What a caller may count on. No pointer is kept after the call. The library has no state and allocates nothing, so that calls may be made
+ * from several threads at once, and within a signal handler. It reads and writes no file.
  */
 #ifndef PLANNER_H
 #define PLANNER_H
@@ -17,9 +28,30 @@
 #include <stddef.h>
 #include <stdint.h>
 
-#define PLANNER_LONGEST_FILE 9296
-#define PLANNER_MOST_VERTICES 128
+/* Limits of a graph. What is above them is refused. */
+#define PLANNER_MOST_KINDS 10      /* types; there is one at least */
+#define PLANNER_MOST_CORES 16      /* of a type; there is one at least */
+#define PLANNER_MOST_VERTICES 128  /* there is one at least */
+#define PLANNER_MOST_EDGES 1024    /* there may be none */
+#define PLANNER_MOST_WCET 1000000  /* of a vertex, in ticks; it may be 0 */
+#define PLANNER_RECORD_LENGTH 8    /* of a file, in bytes */
+#define PLANNER_LONGEST_FILE 9296  /* so many types, vertices and edges, in bytes */
+
+/* In a run record the instant plus all that remains is at most this: 128 vertices at the largest WCET. No run finishes later. */
+#define PLANNER_LATEST_INSTANT 128000000
+
 #define PLANNER_PARTS_PER_TICK 720720
+
+/* The stack that a call needs, in bytes, with its answer and what it is handed by value. Measured over the requests of tests/, which reach
+   every limit and every refusal, and rounded up to pages of 4,096 bytes: no theorem bounds it. What a signal handler needs comes on top. */
+#define PLANNER_STACK_READ 24576
+#define PLANNER_STACK_WRITE 32768
+#define PLANNER_STACK_BOUNDS 24576
+#define PLANNER_STACK_PATH 24576
+#define PLANNER_STACK_START 16384
+#define PLANNER_STACK_TICK 24576
+#define PLANNER_STACK_TICK_IN_PLACE 24576
+#define PLANNER_STACK_RUN 24576
 
 #ifdef __cplusplus
 #define PLANNER_SIZE(type, size) static_assert(sizeof(type) == (size), "the library lays " #type " out otherwise")
@@ -30,23 +62,23 @@ extern "C" {
 
 /* Counts and lists of a graph; unused places are zero. */
 typedef struct PlannerLists {
-    size_t kinds;        /* how many types, 1 to 10 */
-    size_t n;            /* how many vertices, 1 to 128 */
-    size_t edges;        /* how many edges, 0 to 1,024 */
-    uint8_t cores[10];   /* of each type, 1 to 16 */
-    uint8_t kind[128];   /* the type of each vertex */
-    uint32_t wcet[128];  /* of each vertex, in ticks */
-    uint16_t edge[1024]; /* from * 256 + to */
+    size_t kinds;                         /* how many types, 1 to 10 */
+    size_t n;                             /* how many vertices, 1 to 128 */
+    size_t edges;                         /* how many edges, 0 to 1,024 */
+    uint8_t cores[PLANNER_MOST_KINDS];    /* of each type, 1 to 16 */
+    uint8_t kind[PLANNER_MOST_VERTICES];  /* the type of each vertex */
+    uint32_t wcet[PLANNER_MOST_VERTICES]; /* of each vertex, in ticks */
+    uint16_t edge[PLANNER_MOST_EDGES];    /* from * 256 + to */
 } PlannerLists;
 PLANNER_SIZE(PlannerLists, 2728);
 
 /* A run record. Places from n on are zero and unmarked. A caller may copy it, keep it and read it; one that was changed by hand either
    still suits the graph or is refused with 16. */
 typedef struct PlannerRecord {
-    size_t n;           /* how many vertices */
-    uint64_t instant;   /* ticks since the start */
-    uint32_t left[128]; /* the ticks that remain of each vertex */
-    uint64_t ran[2];    /* bit v % 64 of word v / 64: v ran in the last tick and is unfinished */
+    size_t n;                             /* how many vertices */
+    uint64_t instant;                     /* ticks since the start */
+    uint32_t left[PLANNER_MOST_VERTICES]; /* the ticks that remain of each vertex */
+    uint64_t ran[2];                      /* bit v % 64 of word v / 64: v ran in the last tick and is unfinished */
 } PlannerRecord;
 PLANNER_SIZE(PlannerRecord, 544);
 

@@ -5,7 +5,8 @@ use crate::generate::random::Random;
 use crate::generate::request::{Request, LONGEST_PAYLOAD};
 use crate::generate::stream::Stream;
 use crate::options::Options;
-use crate::probe::Probe;
+use crate::probe::{Probe, BAD_END};
+use std::io::{BufWriter, Write};
 
 /// How many differences are shown; all are counted.
 const SHOWN: u64 = 5;
@@ -36,11 +37,11 @@ pub fn compare(options: &Options) -> bool {
     }
     let rest = probe.rest();
     if !rest.is_empty() {
-        eprintln!("more than one line for a request: {}", excerpt(&rest, 0));
+        eprintln!("more than one line for a request: {}", excerpt(rest.trim_end(), 0));
         differences += 1;
     }
     if !probe.end() {
-        eprintln!("the probe didn't end well");
+        eprintln!("{BAD_END}");
         differences += 1;
     }
     let cut = (0..CUT_INPUTS).filter(|&place| !cut_input_agrees(options, place)).count() as u64;
@@ -54,11 +55,14 @@ fn cut_input_agrees(options: &Options, place: u64) -> bool {
     let want = answers(&input);
     let mut probe = Probe::start(&options.command, std::iter::once(input.clone()));
     let got = probe.rest();
-    probe.end();
     if got != want {
         eprintln!("an input that ends inside a request: {}\n{}", hex(&input), difference(&want, &got));
     }
-    got == want
+    let ended_well = probe.end();
+    if !ended_well {
+        eprintln!("{BAD_END}");
+    }
+    got == want && ended_well
 }
 
 pub fn cut_input(seed: u64, place: u64) -> Vec<u8> {
@@ -80,6 +84,14 @@ pub fn cut_input(seed: u64, place: u64) -> Vec<u8> {
     last.truncate(kept);
     input.extend(last);
     input
+}
+
+/// The requests that a probe would be sent, for whoever wants to see what a program does with them.
+pub fn requests(options: &Options) -> bool {
+    let stream = Stream::new(options.seed);
+    let mut out = BufWriter::new(std::io::stdout().lock());
+    let all_written = (0..options.count).all(|place| out.write_all(&stream.request(place).bytes()).is_ok());
+    all_written && out.flush().is_ok()
 }
 
 /// One request in full.

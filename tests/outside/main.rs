@@ -30,6 +30,7 @@ fn main() -> ExitCode {
         Mode::Schedules => schedules::schedules(&options),
         Mode::Sheets => sheets::sheets(&options),
         Mode::Sheet => sheets::sheet_of_input(),
+        Mode::Requests => compare::requests(&options),
         Mode::Show => compare::show(&options),
         Mode::Answer => answer::answer_input(),
     };

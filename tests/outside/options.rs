@@ -7,6 +7,7 @@ outside --self [--count N] [--seed S]               the reference alone: all ans
 outside --schedules N [--seed S] [PROBE-COMMAND..]  random work-conserving schedules against the bounds
 outside --sheets N [--seed S] SHEET-COMMAND..       compare the sheet program's text, a process for each file
 outside --sheet                                     the reference's sheet of standard input
+outside --requests N [--seed S]                     the requests alone, to standard output
 outside --answer                                    the reference as a probe: tries the pipes
 outside --show PLACE [--seed S]                     the request of that place in full, with the answer expected";
 
@@ -17,6 +18,7 @@ pub enum Mode {
     Schedules,
     Sheets,
     Sheet,
+    Requests,
     Show,
     Answer,
 }
@@ -48,6 +50,7 @@ impl Options {
                 "--answer" => options.mode = Mode::Answer,
                 "--schedules" => (options.mode, options.count) = (Mode::Schedules, number()?),
                 "--sheets" => (options.mode, options.count) = (Mode::Sheets, number()?),
+                "--requests" => (options.mode, options.count) = (Mode::Requests, number()?),
                 "--show" => (options.mode, options.count) = (Mode::Show, number()?),
                 _ => options.command.push(word),
             }

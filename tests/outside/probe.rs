@@ -6,6 +6,9 @@ use std::thread::JoinHandle;
 
 const LONGEST_REST: u64 = 1 << 24;
 
+/// What is said of a program that ended with another status than 0.
+pub const BAD_END: &str = "the program didn't end well";
+
 pub struct Probe {
     child: Child,
     feed: JoinHandle<()>,

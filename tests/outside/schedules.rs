@@ -6,7 +6,7 @@ use crate::generate::random::Random;
 use crate::generate::request;
 use crate::generate::runs::times;
 use crate::options::Options;
-use crate::probe::Probe;
+use crate::probe::{Probe, BAD_END};
 use crate::reference::bounds::{bounds, Bounds};
 use crate::reference::graph::{Graph, MOST_VERTICES, PARTS_IN_A_TICK};
 use crate::reference::order::topological;
@@ -54,8 +54,20 @@ pub fn schedules(options: &Options) -> bool {
         options.count,
         nearest * 100.0
     );
-    let ended_well = probe.map(Probe::end).unwrap_or(true);
-    beyond == 0 && ended_well
+    beyond == 0 && probe.map(ended_well).unwrap_or(true)
+}
+
+/// The program has no more to say, and ended well.
+fn ended_well(mut probe: Probe) -> bool {
+    let said_all = probe.rest().is_empty();
+    if !said_all {
+        eprintln!("more than one line for a request");
+    }
+    let ended_well = probe.end();
+    if !ended_well {
+        eprintln!("{BAD_END}");
+    }
+    said_all && ended_well
 }
 
 /// The graph of an experiment, and the numbers for all that follows.

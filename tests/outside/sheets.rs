@@ -3,7 +3,7 @@
 use crate::generate::request::Request;
 use crate::generate::stream::Stream;
 use crate::options::Options;
-use crate::probe::Probe;
+use crate::probe::{Probe, BAD_END};
 use crate::reference::graph::LONGEST_FILE;
 use crate::reference::sheet::sheet;
 use std::io::{Read, Write};
@@ -44,11 +44,14 @@ fn file_in(request: &Request) -> Option<Vec<u8>> {
 fn text_agrees(command: &[String], file: &[u8]) -> bool {
     let mut program = Probe::start(command, std::iter::once(file.to_vec()));
     let got = program.rest();
-    program.end();
     let want = sheet(file);
     if got != want {
         let begin: String = file.iter().take(400).map(|b| format!("{b:02x}")).collect();
         eprintln!("an input of {} bytes, {begin}\nexpected {want}got      {got}", file.len());
     }
-    got == want
+    let ended_well = program.end();
+    if !ended_well {
+        eprintln!("{BAD_END}");
+    }
+    got == want && ended_well
 }

@@ -14,8 +14,8 @@ use Rattle.graph.specs.declared.Answer.{Answer}
 use Rattle.graph.specs.declared.Answer.the-variants.{Accepted, Refused}
 use Rattle.graph.specs.declared.Taken.{Taken}
 use Rattle.graph.proofs.Accepted.{taken}
-use Rattle.bounds.specs.Weight.{weightBy, stages}
-use Rattle.bounds.specs.declared.weights.Measure.the-variants.{Scaled}
+use Rattle.weights.specs.Weight.{weightBy, stages}
+use Rattle.weights.specs.declared.Measure.the-variants.{Scaled}
 use Rattle.paths.specs.Ahead.{weigh, Summed}
 use Rattle.paths.specs.declared.ahead.Sums.{Sums}
 use Rattle.paths.specs.Trace.{Traced}
@@ -56,8 +56,7 @@ path-found {g} G w old {r} e S l T =
     rw (T .held, T .count) (found l (least-longest-same W (weigh w) (scaled (asModel g)) (weighs (weightBy Scaled (asModel g)) (g .n) e) p))
 
 -- so many vertices as the answer says stand in the lent list
-pub path-fits : {s old : List ℕ} {r : Pathed} {new : List ℕ} → PathOf s old r new → length new ≡ length old → (n : ℕ) → r ≡ Vertices n → n ≤ length new
-path-fits (refused {x = x} e) l n h = absurd (let z : _≡_ {A = ℕ} 0 1 = cc in omega arith)
-path-fits (accepted e (narrow m)) l n h = absurd (let z : _≡_ {A = ℕ} 0 1 = cc in omega arith)
-path-fits {old = old} (accepted e (found {p = p} m q)) l n h =
+pub path-fits : {g : Graph} {old : List ℕ} {r : Pathed} {new : List ℕ} → PathIn g old r new → length new ≡ length old → (n : ℕ) → r ≡ Vertices n → n ≤ length new
+path-fits (narrow m) l n h = absurd (let z : _≡_ {A = ℕ} 0 1 = cc in omega arith)
+path-fits {old = old} (found {p = p} m q) l n h =
     let k : length p ≡ n = cc in omega (arith, length-append p (drop (length p) old))

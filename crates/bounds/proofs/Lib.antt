@@ -1,8 +1,5 @@
--- Lists of weights:
-pub mod Filled
+-- What the lists of weights say:
 pub mod Weighing
--- The sum over the kinds:
-pub mod Volumes
 -- The entries:
 pub mod Entries
 -- What each public contract leaves open: nothing.

@@ -34,7 +34,7 @@ bounds-unique s r r′ p q = go (readOf s .answer) (p .figures) (q .figures)
     go (Refused z) x y =
         bounded-same r r′ (p .answer ∙ sym (q .answer)) (x .old ∙ sym (y .old)) (x .new ∙ sym (y .new)) (x .ticks ∙ sym (y .ticks))
 
-path-in-unique : {g : reader.Graph} {old : List ℕ} {r r′ : Pathed} {new new′ : List ℕ} → PathIn g old r new → PathIn g old r′ new′
+pub path-in-unique : {g : reader.Graph} {old : List ℕ} {r r′ : Pathed} {new new′ : List ℕ} → PathIn g old r new → PathIn g old r′ new′
     → (r ≡ r′) × (new ≡ new′)
 path-in-unique (narrow l) (narrow m) = (refl, refl)
 path-in-unique (narrow l) (found m p) = absurd (omega arith)

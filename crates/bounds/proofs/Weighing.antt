@@ -14,10 +14,10 @@ use Rattle.model.proofs.Tables.{padded-at}
 use Rattle.model.proofs.Sums.{largest-most}
 use Rattle.graph.specs.Model.{AcceptedGraph, asModel}
 use Rattle.graph.specs.declared.Graph.{Graph}
-use Rattle.starts.specs.Starts.{startOf}
-use Rattle.bounds.specs.Weight.{weightBy, stages, Small}
-use Rattle.bounds.specs.declared.weights.Measure.{Measure}
-use Rattle.bounds.specs.declared.weights.Measure.the-variants.{Plain, Scaled}
+use Rattle.starts.specs.Starts.{firstEdge}
+use Rattle.weights.specs.Weight.{weightBy, stages, Small}
+use Rattle.weights.specs.declared.Measure.{Measure}
+use Rattle.weights.specs.declared.Measure.the-variants.{Plain, Scaled}
 use Rattle.paths.specs.Ahead.{weigh, Weighed}
 use Rattle.paths.proofs.Complete.{greatest-same, greatest-small}
 
@@ -42,7 +42,7 @@ module _ {g : Graph} (G : AcceptedGraph g) where
       omega (arith, G .well-formed .some-core _ k, largest-most (asModel g .cores) (g .kinds) (asModel g .kind 0) k)
 
   -- a list of weights by a measure of which none is above c, and the largest sum over it
-  module _ {st : List ℕ} (S : st ≡ table (startOf g) 129) (by : Measure) (c : ℕ) (most : (v : ℕ) → v < g .n → weightBy by (asModel g) v ≤ c) (room : c ≤ 720720000000)
+  module _ {st : List ℕ} (S : st ≡ table (firstEdge g) 129) (by : Measure) (c : ℕ) (most : (v : ℕ) → v < g .n → weightBy by (asModel g) v ≤ c) (room : c ≤ 720720000000)
       {w : List ℕ} (e : w ≡ padded 128 (weightBy by (stages (g .kind) (g .wcet) (g .cores) (g .kinds) (g .n))) (g .n)) where
     weights-are : (v : ℕ) → v < g .n → weigh w v ≡ weightBy by (asModel g) v
     unfolding weightBy asModel

@@ -7,6 +7,7 @@
 --   noRoom              lent room too small: 15 at 0
 --   PathIn g old r new  the answer r for an accepted graph, and the lent list from old to new: 15 where there are fewer than N
 --                       places, else the path; whatever is not the path stays as it was
+--   ofPathed r          the answer in document 01's numbers: its value is how many vertices the path has
 --   PathOf s old r new  the answer of `path`, and the lent list: the reader's refusal, or that
 use mathlib.Core.Path.{_≡_}
 use mathlib.Core.List.{List, _++_}
@@ -16,6 +17,7 @@ use Rattle.model.specs.Graph.{Graph}
 use Rattle.model.specs.Bounds.{PARTS, OldB, NewB1, ThePath}
 use Rattle.graph.specs.Model.{asModel}
 use Rattle.graph.specs.Judge.{readOf}
+use Rattle.graph.specs.Said.{Said, saidNo}
 use Rattle.graph.specs.declared.Graph as reader
 use Rattle.graph.specs.declared.Refusal.{Refusal}
 use Rattle.graph.specs.declared.Answer.{Answer}
@@ -48,6 +50,10 @@ noRoom = record { number = 15; place = 0 }
 pub data PathIn (g : reader.Graph) (old : List ℕ) : Pathed → List ℕ → Type 0 where
   narrow : length old < g .n → PathIn g old (NoPath noRoom) old
   found : {p : List ℕ} → g .n ≤ length old → ThePath (asModel g) p → PathIn g old (Vertices (length p)) (p ++ drop (length p) old)
+
+abbrev pub ofPathed : Pathed → Said
+ofPathed (Vertices n) = record { number = 0; place = 0; value = n }
+ofPathed (NoPath r) = saidNo r
 
 pub data PathOf (s old : List ℕ) : Pathed → List ℕ → Type 0 where
   refused : {x : Refusal} → readOf s .answer ≡ Refused x → PathOf s old (NoPath x) old

@@ -10,15 +10,15 @@ ghost use Rattle.graph.specs.Model.{AcceptedGraph, asModel};
 ghost use Rattle.paths.specs.Ahead.{weigh, Weighed};
 ghost use Rattle.bounds.specs.Answers.{Figures};
 use crate::Bounded;
-use crate::volume::most_cores;
-use crate::volume::volume;
-use crate::weights::Measure;
-use crate::weights::weights;
 use graph::Answer;
 use graph::Graph;
 use paths::ahead::longest;
 use units::Parts;
 use units::Ticks;
+use weights::Measure;
+use weights::volume::most_cores;
+use weights::volume::volume;
+use weights::weights;
 
 // The largest sum along a complete path.
 fn largest(edge: &[u16; 1024], start: &[u16; 129], n: usize, weight: &[u64; 128]) -> u64

@@ -9,9 +9,7 @@ use graph::Refusal;
 use units::Parts;
 use units::Ticks;
 
-mod accepted; // accepted.rt: the bounds of an accepted graph
-mod volume; // volume.rt: the sum over the kinds
-mod weights; // weights.rt: what the vertices weigh
+pub mod accepted; // accepted.rt: the bounds of an accepted graph
 
 // The reader's answer, and the two bounds; `ticks` is NEW-B-1 in whole ticks. Beside a refusal all three are 0.
 pub struct Bounded {
@@ -36,7 +34,7 @@ fn nothing(refusal: Refusal) -> Bounded
 pub fn bounds(file: &[u8]) -> Bounded
     ensures { λ r. ⌜ BoundsOf (now (file .entry)) r ⌝ }
 {
-    let taken = graph::read(file);
+    let taken = reader::read(file);
     let answer = taken.answer;
     match answer {
         Answer::Refused(refusal) => nothing(refusal),
@@ -54,7 +52,7 @@ pub enum Pathed {
 }
 
 // The path of an accepted graph. A path may be shorter than the room that is asked for.
-fn path_into(g: Graph, out: &mut [u8]) -> Pathed
+pub fn path_into(g: Graph, out: &mut [u8]) -> Pathed
     requires { ⌜ AcceptedGraph g ⌝ }
     ensures { λ r. ⌜ PathIn g (now (out .entry)) r (now (out .exit)) ⌝ }
 {
@@ -82,7 +80,7 @@ fn path_into(g: Graph, out: &mut [u8]) -> Pathed
 pub fn path(file: &[u8], out: &mut [u8]) -> Pathed
     ensures { λ r. ⌜ PathOf (now (file .entry)) (now (out .entry)) r (now (out .exit)) ⌝ }
 {
-    let taken = graph::read(file);
+    let taken = reader::read(file);
     let answer = taken.answer;
     match answer {
         Answer::Refused(refusal) => Pathed::Refused(refusal),

@@ -2,148 +2,207 @@
 -- refused by number, and a refusal changes nothing that was lent.
 --
 -- That each entry answers every input is what its proof says: none of them has a `requires`, and each ends. What it answers is its
--- contract. Here: which number and which place, and that what was lent is as it was.
+-- contract, and the statements here are over the contracts (`ReadGives` and the like, specs/Entries): which number and which place, and
+-- that what was lent is as it was.
 use mathlib.Core.Path.{_≡_, refl, sym, ap, _∙_}
+use mathlib.Core.Logic.{_↔_}
 use mathlib.Core.List.{List}
+use mathlib.Core.Bool.{Bool, true, false}
 use Prim.Native.Nat.{ℕ, _≤_, _<_}
 use native.Mathlib.Omega.{arith}
-use mathlib.Core.Bool.{Bool, true, false}
-use Rattle.model.specs.Places.{pick}
+use lib.Dec.{ltb}
 use lib.ListN.{length}
 use borrow.Author.Tests.{lt-ltb}
-use Rattle.graph.specs.Judge.{judgeFrom, readOf, Rightly}
+use Rattle.model.specs.Places.{pick}
+use Rattle.model.proofs.Bools.{clash}
+use Rattle.graph.specs.Model.{AcceptedGraph}
+use Rattle.graph.specs.Judge.{judgeFrom, readOf}
+use Rattle.graph.specs.Said.{ofAnswer}
 use Rattle.graph.specs.declared.Refusal.{Refusal}
-use Rattle.graph.specs.declared.Answer.{Answer}
 use Rattle.graph.specs.declared.Graph.{Graph}
+use Rattle.graph.specs.declared.Answer.{Answer}
+use Rattle.graph.specs.declared.Taken.{Taken}
 use Rattle.graph.specs.declared.Answer.the-variants.{Accepted, Refused}
-use Rattle.graph.proofs.Judging.{none-holds}
-use Rattle.graph.proofs.Accepted.{refused-rightly, refused-zero}
+use Rattle.graph.proofs.Accepted as reader
 use Rattle.writer.specs.Lists.{Lists}
-use Rattle.writer.specs.Write.{wroteOf, roomAfter}
+use Rattle.writer.specs.Write.{ofWrote}
+use Rattle.writer.specs.declared.Wrote.{Wrote}
 use Rattle.writer.specs.declared.Wrote.the-variants.{Refused as NotWritten}
-use Rattle.bounds.specs.Answers.{Nothing, BoundsOf, noRoom, PathIn, narrow, found, PathOf, refused, accepted}
+use Rattle.bounds.specs.Answers.{Nothing, BoundsOf, PathIn, narrow, found, PathOf, refused, accepted, ofPathed}
 use Rattle.bounds.specs.declared.Bounded.{Bounded}
 use Rattle.bounds.specs.declared.Pathed.{Pathed}
-use Rattle.bounds.specs.declared.Pathed.the-variants.{Refused as NoPath}
+use Rattle.bounds.specs.declared.Pathed.the-variants.{Vertices, Refused as NoPath}
 use Rattle.tick.specs.declared.Run.{Run}
 use Rattle.tick.specs.declared.Ticked.{Ticked}
+use Rattle.tick.specs.declared.Report.{Report}
 use Rattle.tick.specs.declared.Report.the-variants.{Moved, Done, Refused as NoTick}
-use Rattle.tick.specs.Run.{over, tickedOf}
-use Rattle.tick.specs.Suits.{suits}
-use Rattle.schedule.specs.Start.{noRun, judgeTimes, startBeside, startedOn, startAfter, startOf}
+use Rattle.tick.specs.Run.{over, tickedOf, ofReport}
+use Rattle.tick.specs.Suits.{suits, Suits}
+use Rattle.tick.proofs.Suiting.{suits-sound, suits-complete}
+use Rattle.times.specs.Times.{judgeTimes}
+use Rattle.schedule.specs.Start.{noRun, refusedStart, startBeside, startedOn, startAfter, startOf}
 use Rattle.schedule.specs.Tick.{tickOn, tickAfter, tickOf}
-use Rattle.schedule.specs.Whole.{playIn, playOn, playOf, finishesOf}
+use Rattle.schedule.specs.Whole.{playIn, playOn, playOf, finishesOf, ofPlayed}
+use Rattle.schedule.specs.declared.Started.{Started}
+use Rattle.schedule.specs.declared.Played.{Played}
 use Rattle.schedule.specs.declared.Played.the-variants.{Refused as NoRun}
-use Rattle.claims.specs.Claims as claims
+use Rattle.claims.specs.Claims.{Bytes, IsAccepted, drawnIn, at-0, NoneFrom, Closed, Answered, Sound, WriteAnswered}
+use Rattle.claims.specs.Entries.{ReadGives, WriteGives, BoundsGives, PathGives, StartGives, TickGives, TickInPlaceGives, RunGives}
+use Rattle.claims.proofs.Entries.{read-given, write-given, bounds-given, path-given, start-given, tick-given, tick-in-place-given, run-given}
+use Rattle.claims.proofs.Judged.{read-answered, cycle-judged, sound-judged, write-answered}
+use Rattle.claims.proofs.Numbers as numbers
 
--- THEOREM. The reader accepts a file exactly where no number of the table applies; else it gives the lowest that applies, with the first place
--- that it holds for, and a graph that is zero throughout.
-pub read-answers : (s : List ℕ) → claims.Answered s
+-- ---- the reader and the writer
+
+-- THEOREM. The reader accepts a file where no number of the table applies; else it gives the lowest that applies, with the first place that it
+-- holds for, and a graph that is zero throughout.
+pub read-answers : {s : List ℕ} {t : Taken} → ReadGives s t → Answered s t
+read-answers {s} h = rw (read-given h) (read-answered s)
+
+answer-of : {s : List ℕ} {t : Taken} → ReadGives s t → t .answer ≡ readOf s .answer
+answer-of h = ap (λ (t : Taken). t .answer) (read-given h)
+
+-- THEOREM. A file is accepted exactly where no number up to 10 applies, its edges hold no cycle, and it has one source and one sink.
+pub accepted-exactly : {s : List ℕ} {t : Taken} → Bytes s → ReadGives s t → (t .answer ≡ Accepted) ↔ Sound s
 unfolding readOf
-read-answers s = go (readOf s .answer) refl
-  where
-    go : (a : Answer) → readOf s .answer ≡ a → claims.Answered s
-    go Accepted e = claims.taken e (λ num k l h. none-holds 1 s e num l h k)
-    go (Refused r) e = claims.refused r e (refused-rightly s r e) (refused-zero s r e)
+accepted-exactly {s} bytes h = rw (answer-of h) (sound-judged s bytes)
 
--- THEOREM. A refused write leaves the lent room as it was.
-pub write-leaves : (g : Lists) (out : List ℕ) (r : Refusal) → wroteOf g (length out) ≡ NotWritten r → roomAfter g out ≡ out
-unfolding roomAfter
-write-leaves g out r e = rw e refl
+-- THEOREM. Number 11 is given exactly where no number below it applies and the edges hold a cycle, perhaps one that no source reaches.
+pub cycle-exactly : {s : List ℕ} {t : Taken} → Bytes s → ReadGives s t → (t .answer ≡ Refused (at-0 11)) ↔ (NoneFrom 1 11 s × Closed (drawnIn s))
+unfolding readOf
+cycle-exactly {s} bytes h = rw (answer-of h) (cycle-judged s bytes)
 
--- THEOREM. Beside a refusal both bounds and the ticks are 0.
-pub bounds-nothing : (s : List ℕ) (x : Refusal) → readOf s .answer ≡ Refused x → (r : Bounded) → BoundsOf s r → Nothing r
-bounds-nothing s x e r b = rw e at (b .figures)
+-- THEOREM. The writer gives 13 where types and WCETs differ in length; then 4 to 12, the lowest that applies to the file that the lists would
+-- give, with its first place there; then 15 where the room is shorter than that file. A refused write leaves the room as it was.
+pub write-answers : {g : Lists} {old new : List ℕ} {w : Wrote} → WriteGives g old w new → WriteAnswered g old w new
+write-answers {g} {old} h = let e = write-given h in rw (e .0, e .1) (write-answered g old)
 
--- THEOREM. A refused path leaves the lent list as it was.
-pub path-leaves : (s old new : List ℕ) (x : Refusal) → PathOf s old (NoPath x) new → new ≡ old
-path-leaves s old new x (refused e) = refl
-path-leaves s old new x (accepted e (narrow l)) = refl
+-- ---- every other entry takes a file: the reader's number comes first, and what was lent is as it was
 
--- THEOREM. A refused start hands back a record that is zero and unmarked throughout.
-pub start-zero : (s e : List ℕ) (x : Refusal) → startOf s e .answer ≡ Refused x → startOf s e .run ≡ noRun
-unfolding startOf startedOn
-start-zero s e x h = after (readOf s .answer) (readOf s .graph) h
-  where
-    beside : (a : Answer) (g : Graph) → startBeside a g e .answer ≡ Refused x → startBeside a g e .run ≡ noRun
-    beside Accepted g h = absurd (let z : _≡_ {A = ℕ} 0 1 = cc in omega arith)
-    beside (Refused r) g h = refl
+-- THEOREM. Of a file that the reader refuses with x, every entry says no with x.
+module _ {s : List ℕ} {t : Taken} (R : ReadGives s t) {x : Refusal} (no : t .answer ≡ Refused x) where
+  refused-file : readOf s .answer ≡ Refused x
+  refused-file = sym (answer-of R) ∙ no
 
-    after : (a : Answer) (g : Graph) → startAfter a g e .answer ≡ Refused x → startAfter a g e .run ≡ noRun
-    after Accepted g h = beside (judgeTimes g e) g h
-    after (Refused r) g h = refl
+  -- both bounds and the ticks are 0
+  pub bounds-first : {b : Bounded} → BoundsGives s b → (b .answer ≡ Refused x) × Nothing b
+  bounds-first h = let b = bounds-given h in (b .answer ∙ refused-file, rw refused-file at (b .figures))
 
--- THEOREM. A refused tick hands back the record it was given, so that the one in place leaves it.
-pub tick-leaves : (s : List ℕ) (r : Run) (x : Refusal) → tickOf s r .report ≡ NoTick x → tickOf s r .run ≡ r
-unfolding tickOf tickOn tickedOf
-tick-leaves s r x h = after (readOf s .answer) (readOf s .graph) h
-  where
-    -- a record that suits or not, a run that is over or not
-    answer : Bool → Bool → Run → Ticked
-    answer a b n =
-        pick a (pick b (record { report = Done; run = r }) (record { report = Moved; run = n })) (record { report = NoTick (record { number = 16; place = 0 }); run = r })
-
-    suited : (a b : Bool) (n : Run) → answer a b n .report ≡ NoTick x → answer a b n .run ≡ r
-    suited true true n h = refl
-    suited true false n h = absurd (let z : _≡_ {A = ℕ} 0 1 = cc in omega arith)
-    suited false b n h = refl
-
-    after : (a : Answer) (g : Graph) → tickAfter a g r .report ≡ NoTick x → tickAfter a g r .run ≡ r
-    after Accepted g h = suited (suits g r) (over g r) _ h
-    after (Refused y) g h = refl
-
--- THEOREM. A refused run leaves the lent list as it was.
-pub run-leaves : (s e old : List ℕ) (x : Refusal) → playOf s e (length old) ≡ NoRun x → finishesOf s e old ≡ old
-unfolding finishesOf
-run-leaves s e old x h = rw h refl
-
--- ---- which number
-
--- THEOREM. Every entry that takes a file says no with the reader's number and place, before any other.
-module _ (s : List ℕ) (x : Refusal) (no : readOf s .answer ≡ Refused x) where
-  pub bounds-first : (r : Bounded) → BoundsOf s r → r .answer ≡ Refused x
-  bounds-first r b = b .answer ∙ no
-
-  pub path-first : (old new : List ℕ) (r : Pathed) → PathOf s old r new → r ≡ NoPath x
-  path-first old new r (refused e) = cc
-  path-first old new r (accepted e p) = absurd (let z : _≡_ {A = ℕ} 0 1 = cc in omega arith)
-
-  pub start-first : (e : List ℕ) → startOf s e .answer ≡ Refused x
-  unfolding startOf
-  start-first e = rw no refl
-
-  pub tick-first : (r : Run) → tickOf s r .report ≡ NoTick x
-  unfolding tickOf
-  tick-first r = rw no refl
-
-  pub run-first : (e : List ℕ) (room : ℕ) → playOf s e room ≡ NoRun x
-  unfolding playOf
-  run-first e room = rw no refl
-
--- THEOREM. Then, for an accepted file: a path gives 15 where the room is below N and no other number; a start 13 or 14 as the times are judged; a
--- tick 16 where the record doesn't suit; a run 13 or 14, then 15 where the room is below N.
-module _ (s : List ℕ) (ok : claims.IsAccepted s) where
-  pub path-15 : (old new : List ℕ) (x : Refusal) → PathOf s old (NoPath x) new → (x ≡ noRoom) × (length old < readOf s .graph .n)
-  path-15 old new x (refused e) = absurd (let z : _≡_ {A = ℕ} 0 1 = cc in omega arith)
-  path-15 old new x (accepted e (narrow l)) = (refl, l)
-
-  pub start-13-14 : (e : List ℕ) → startOf s e .answer ≡ judgeTimes (readOf s .graph) e
-  unfolding startOf startedOn
-  start-13-14 e = rw ok (beside (judgeTimes (readOf s .graph) e))
+  pub path-first : {old new : List ℕ} {p : Pathed} → PathGives s old p new → (p ≡ NoPath x) × (new ≡ old)
+  path-first h = go (path-given h)
     where
-      beside : (a : Answer) → startBeside a (readOf s .graph) e .answer ≡ a
-      beside Accepted = refl
-      beside (Refused r) = refl
+      go : {old new : List ℕ} {p : Pathed} → PathOf s old p new → (p ≡ NoPath x) × (new ≡ old)
+      go (refused e) = (let q = refused-file in cc, refl)
+      go (accepted e p) = absurd (let q = refused-file in let z : _≡_ {A = ℕ} 0 1 = cc in omega arith)
 
-  pub tick-16 : (r : Run) → suits (readOf s .graph) r ≡ false → tickOf s r ≡ record { report = NoTick (record { number = 16; place = 0 }); run = r }
-  unfolding tickOf tickOn
-  tick-16 r h = rw (ok, h) refl
+  -- the record is zero and unmarked throughout
+  pub start-first : {e : List ℕ} {r : Started} → StartGives s e r → r ≡ record { answer = Refused x; run = noRun }
+  unfolding startOf
+  start-first h = start-given h ∙ rw refused-file refl
 
-  pub run-13-14 : (e : List ℕ) (room : ℕ) (x : Refusal) → judgeTimes (readOf s .graph) e ≡ Refused x → playOf s e room ≡ NoRun x
-  unfolding playOf playOn
-  run-13-14 e room x h = rw (ok, h) refl
+  -- the record is the one that was given
+  pub tick-first : {r : Run} {y : Ticked} → TickGives s r y → y ≡ record { report = NoTick x; run = r }
+  unfolding tickOf
+  tick-first h = tick-given h ∙ rw refused-file refl
 
-  pub run-15 : (e : List ℕ) (room : ℕ) → judgeTimes (readOf s .graph) e ≡ Accepted → room < readOf s .graph .n
-      → playOf s e room ≡ NoRun (record { number = 15; place = 0 })
-  unfolding playOf playOn playIn
-  run-15 e room h l = rw (ok, h, lt-ltb room (readOf s .graph .n) l) refl
+  pub tick-in-place-first : {r r′ : Run} {y : Report} → TickInPlaceGives s r y r′ → _≡_ {A = Ticked} (record { report = y; run = r′ }) (record { report = NoTick x; run = r })
+  unfolding tickOf
+  tick-in-place-first h = tick-in-place-given h ∙ rw refused-file refl
+
+  pub run-first : {e old new : List ℕ} {p : Played} → RunGives s e old p new → (p ≡ NoRun x) × (new ≡ old)
+  unfolding playOf finishesOf
+  run-first h = let e = run-given h in (e .0 ∙ rw refused-file refl, e .1 ∙ rw refused-file refl)
+
+-- ---- then, of an accepted file: a path's 15, the times' 13 and 14, a record's 16, a run's 13, 14 and 15
+
+module _ {s : List ℕ} {t : Taken} (R : ReadGives s t) (ok : t .answer ≡ Accepted) where
+  taken-file : readOf s .answer ≡ Accepted
+  taken-file = sym (answer-of R) ∙ ok
+
+  graph-of : t .graph ≡ readOf s .graph
+  graph-of = ap (λ (t : Taken). t .graph) (read-given R)
+
+  -- THEOREM. A path says no exactly where the room is below N, with 15, and leaves the list as it was.
+  pub path-15 : {old new : List ℕ} {p : Pathed} → PathGives s old p new → (p ≡ NoPath (at-0 15)) ↔ (length old < t .graph .n)
+  path-15 {old} h = rw graph-of (go (path-given h))
+    where
+      go : {new : List ℕ} {p : Pathed} → PathOf s old p new → (p ≡ NoPath (at-0 15)) ↔ (length old < readOf s .graph .n)
+      go (refused e) = absurd (let q = taken-file in let z : _≡_ {A = ℕ} 0 1 = cc in omega arith)
+      go (accepted e (narrow l)) = (λ q. l, λ q. refl)
+      go (accepted e (found l p)) = (λ q. absurd (let z : _≡_ {A = ℕ} 0 1 = cc in omega arith), λ q. absurd (omega arith))
+
+  pub path-leaves : {old new : List ℕ} {x : Refusal} → PathGives s old (NoPath x) new → (x ≡ at-0 15) × (new ≡ old)
+  path-leaves {old} h = go (path-given h)
+    where
+      go : {new : List ℕ} {x : Refusal} → PathOf s old (NoPath x) new → (x ≡ at-0 15) × (new ≡ old)
+      go (refused e) = absurd (let q = taken-file in let z : _≡_ {A = ℕ} 0 1 = cc in omega arith)
+      go (accepted e (narrow l)) = (refl, refl)
+
+  -- THEOREM. A start says no exactly where the times are judged so: 13 where there are not N of them, else 14 at the first that is above its
+  -- vertex's WCET. The record beside a refusal is zero and unmarked throughout.
+  pub start-13-14 : {e : List ℕ} {r : Started} → StartGives s e r → r ≡ startBeside (judgeTimes (t .graph) e) (t .graph) e
+  unfolding startOf startedOn
+  start-13-14 {e} h = start-given h ∙ rw (taken-file, graph-of) refl
+
+  tick-on : {r : Run} {y : Ticked} → TickGives s r y → y ≡ tickOn (readOf s .graph) r
+  unfolding tickOf
+  tick-on h = tick-given h ∙ rw taken-file refl
+
+  -- THEOREM. A tick says no exactly where the record doesn't suit the graph, with 16, and hands back the record that it was given.
+  pub tick-16 : {r : Run} {y : Ticked} → Bytes s → TickGives s r y → (y ≡ record { report = NoTick (at-0 16); run = r }) ↔ (Suits (t .graph) r → ⊥)
+  unfolding tickOn tickedOf
+  tick-16 {r} bytes h = rw (tick-on h, graph-of) (go (suits (readOf s .graph) r) refl)
+    where
+      A : AcceptedGraph (readOf s .graph)
+      A = reader.taken s bytes taken-file
+
+      go : (b : Bool) → suits (readOf s .graph) r ≡ b → (tickOn (readOf s .graph) r ≡ record { report = NoTick (at-0 16); run = r }) ↔ (Suits (readOf s .graph) r → ⊥)
+      go true e = (λ q. absurd (moves (over (readOf s .graph) r) _ (rw e at q)), λ f. absurd (f (suits-sound (readOf s .graph) r A e)))
+        where
+          moves : (b : Bool) (n : Run) → _≡_ {A = Ticked} (pick b (record { report = Done; run = r }) (record { report = Moved; run = n })) (record { report = NoTick (at-0 16); run = r }) → ⊥
+          moves true n q = let w : _≡_ {A = Report} Done (NoTick (at-0 16)) = ap (λ (t : Ticked). t .report) q in let z : _≡_ {A = ℕ} 0 1 = cc in omega arith
+          moves false n q = let w : _≡_ {A = Report} Moved (NoTick (at-0 16)) = ap (λ (t : Ticked). t .report) q in let z : _≡_ {A = ℕ} 0 1 = cc in omega arith
+      go false e = (λ q f. clash (suits-complete (readOf s .graph) r A f) e, λ f. rw e refl)
+
+  -- THEOREM. A run says no with 13 or 14 as a start does, then with 15 exactly where the room is below N; and leaves the list as it was.
+  pub run-13-14 : {e old new : List ℕ} {p : Played} {x : Refusal} → RunGives s e old p new → judgeTimes (t .graph) e ≡ Refused x → (p ≡ NoRun x) × (new ≡ old)
+  unfolding playOf playOn finishesOf
+  run-13-14 h j =
+      let e = run-given h in
+      let k = rw graph-of at j in
+      (e .0 ∙ rw (taken-file, k) refl, e .1 ∙ rw (taken-file, k) refl)
+
+  pub run-15 : {e old new : List ℕ} {p : Played} → RunGives s e old p new → judgeTimes (t .graph) e ≡ Accepted → length old < t .graph .n
+      → (p ≡ NoRun (at-0 15)) × (new ≡ old)
+  unfolding playOf playOn playIn finishesOf
+  run-15 {old = old} h j l =
+      let e = run-given h in
+      let k = rw graph-of at j in
+      let b = lt-ltb (length old) (readOf s .graph .n) (rw graph-of at l) in
+      (e .0 ∙ rw (taken-file, k, b) refl, e .1 ∙ rw (taken-file, k, b) refl)
+
+-- ---- number 0
+
+-- THEOREM. In document 01's numbers, number 0 is given exactly where nothing is refused.
+pub read-zero : {s : List ℕ} {t : Taken} → ReadGives s t → (ofAnswer (t .answer) .number ≡ 0) ↔ ((x : Refusal) → t .answer ≡ Refused x → ⊥)
+read-zero {s} {t} h = numbers.zero-answer (t .answer) (λ x e. numbers.read-above s x (sym (answer-of h) ∙ e))
+
+pub write-zero : {g : Lists} {old new : List ℕ} {w : Wrote} → WriteGives g old w new → (ofWrote w .number ≡ 0) ↔ ((x : Refusal) → w ≡ NotWritten x → ⊥)
+write-zero {w = w} h = numbers.zero-wrote w (numbers.write-above (write-answers h))
+
+pub bounds-zero : {s : List ℕ} {b : Bounded} → BoundsGives s b → (ofAnswer (b .answer) .number ≡ 0) ↔ ((x : Refusal) → b .answer ≡ Refused x → ⊥)
+bounds-zero {s} {b} h = numbers.zero-answer (b .answer) (λ x e. numbers.read-above s x (sym (bounds-given h .answer) ∙ e))
+
+pub path-zero : {s old new : List ℕ} {p : Pathed} → PathGives s old p new → (ofPathed p .number ≡ 0) ↔ ((x : Refusal) → p ≡ NoPath x → ⊥)
+path-zero {p = p} h = numbers.zero-pathed p (numbers.path-above (path-given h))
+
+pub start-zero : {s e : List ℕ} {r : Started} → StartGives s e r → (ofAnswer (r .answer) .number ≡ 0) ↔ ((x : Refusal) → r .answer ≡ Refused x → ⊥)
+start-zero {s} {e} {r} h =
+    numbers.zero-answer (r .answer) (λ x q. numbers.start-above s e x (sym (ap (λ (r : Started). r .answer) (start-given h)) ∙ q))
+
+pub tick-zero : {s : List ℕ} {r : Run} {y : Ticked} → TickGives s r y → (ofReport (y .report) .number ≡ 0) ↔ ((x : Refusal) → y .report ≡ NoTick x → ⊥)
+tick-zero {s} {r} {y} h =
+    numbers.zero-report (y .report) (λ x q. numbers.tick-above s r x (sym (ap (λ (y : Ticked). y .report) (tick-given h)) ∙ q))
+
+pub run-zero : {s e old new : List ℕ} {p : Played} → RunGives s e old p new → (ofPlayed p .number ≡ 0) ↔ ((x : Refusal) → p ≡ NoRun x → ⊥)
+run-zero {s} {e} {old} {p = p} h = numbers.zero-played p (λ x q. numbers.run-above s e (length old) x (sym (run-given h .0) ∙ q))

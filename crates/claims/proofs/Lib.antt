@@ -2,4 +2,11 @@
 pub mod Demand1
 pub mod Demand2
 pub mod Demand3
+pub mod Called
 pub mod Worked
+-- What they cite of this crate.
+pub mod Entries
+pub mod Judged
+pub mod Numbers
+pub mod Running
+pub mod Ending

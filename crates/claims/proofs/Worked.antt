@@ -20,8 +20,10 @@ use Rattle.graph.specs.Judge.{placeOf, applies, lowest, judgeFrom, readOf}
 use Rattle.graph.proofs.Accepted.{taken}
 use Rattle.paths.proofs.Computed.{aheadWithin, aheadOf, greatestOf, headOf, nextOf, stepsOf, leastOf}
 use Rattle.bounds.proofs.Computed.{oldOf, newOf, pathOf, old-b-computed, new-b-1-computed, path-computed}
-use Rattle.schedule.specs.Start.{tooLong, judgeTimes, startedOn, startOf}
-use Rattle.schedule.specs.Whole.{doneAt, finishAt, finishOf, playIn, playOn, playOf, finishesOf}
+use Rattle.times.specs.Times.{tooLong, judgeTimes}
+use Rattle.schedule.specs.Start.{startedOn, startOf}
+use Rattle.leaps.specs.Finishes.{doneAt, finishAt, finishOf}
+use Rattle.schedule.specs.Whole.{playIn, playOn, playOf, finishesOf}
 use Rattle.claims.specs.Claims.{IsAccepted, graphIn}
 use Rattle.claims.specs.Worked as worked
 
@@ -36,7 +38,7 @@ byte-at (x ∷ s) e (suc i) = byte-at s (right-of (ltb x 256) (bytes s) e) i
 
 -- what is computed from a file holds of it
 computed : (s : List ℕ) {old new ticks : ℕ} {path : List ℕ} → bytes s ≡ true → IsAccepted s → oldOf (graphIn s) ≡ old → newOf (graphIn s) ≡ new
-    → new / PARTS ≡ ticks → pathOf (graphIn s) ≡ path → worked.Bounded s old new ticks path
+    → new / PARTS ≡ ticks → pathOf (graphIn s) ≡ path → worked.HasBounds s old new ticks path
 computed s b a o n t p =
     let A = taken s (byte-at s b) a in
     record {
@@ -48,7 +50,7 @@ computed s b a o n t p =
     }
 
 -- THEOREM. Cases A to L.
-pub cases : worked.All worked.Right worked.table
+pub cases : worked.All worked.Right worked.rows
 unfolding first count any every table padded sum largest source sink walks cyclic vol volume mostCores scaled finishedWithin finished ready goesOn waits chosen leap steps wordAt keyAt order isOrder many ordinal column words keys graphOf from to joins asModel rule1 rule2 rule3 rule4 rule5 rule6 rule7 rule8 rule9 rule10 rule11 rule12 holds places placeOf applies lowest judgeFrom readOf aheadWithin aheadOf greatestOf headOf nextOf stepsOf leastOf oldOf newOf pathOf tooLong judgeTimes startedOn startOf doneAt finishAt finishOf playIn playOn playOf finishesOf
 cases = (
   computed worked.fileA refl refl refl refl refl refl,

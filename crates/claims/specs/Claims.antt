@@ -1,29 +1,46 @@
--- What the three demands are said with, beside the entries' own definitions and the model's.
+-- What the three demands are said with, beside what the entries give (Entries), their own definitions and the model's.
 --
---   Bytes s              every place of the list s is a byte
---   IsAccepted s         the reader accepts the file s
---   graphIn s            the model's graph of the file s
---   schedule s e         the list schedule of the file's graph with the times e
---   PathLent s old new n  the list new, which was old, begins with the n vertices of the file's path and is otherwise as it was
---   NoNumber s           no row of document 01's table, 1 to 12, holds for any place of the file
---   Answered s           the reader accepts, where no number applies; or it says no with the lowest number that applies and the first
---                        place it holds for, and the graph beside it is zero throughout
+--   Bytes s                    every place of the list s is a byte
+--   IsAccepted s               the reader accepts the file s
+--   graphIn s                  the model's graph of the file s, which is accepted
+--   drawnIn s                  the model's graph that the records of a file give, accepted or not
+--   schedule s e               the list schedule of the file's graph with the times e
+--   runAt s e t             the record of that schedule's state at the instant t
+--   NoneFrom a b s             no row of document 01's table, from number a up to b - 1, holds for any place of the file
+--   Closed G                   the edges of G hold a cycle: a walk from a vertex to itself
+--   Answered s t               the reader's answer: it accepts, where no number applies; or it says no with the lowest number that applies
+--                              and the first place it holds for, and the graph beside it is zero throughout
+--   Sound s                    what an accepted file is, in the model's words
+--   WriteAnswered g old w new  the writer's answer: 13, then 4 to 12, with the places that the records would have had, then 15; each leaves
+--                              the room as it was. Else the file, and past it what stood there
+--   PathLent s old new n       the list new, which was old, begins with the n vertices of the file's path and is otherwise as it was
+--   RunLent s e old new F      F is the finish of the file's list schedule; the list new, which was old, has each vertex's finish instant in
+--                              its first N places, and is otherwise as it was
 use mathlib.Core.Path.{_≡_}
 use mathlib.Core.Bool.{false}
 use mathlib.Core.List.{List, _++_}
 use Prim.Native.Nat.{ℕ, _≤_, _<_}
 use lib.ListN.{getD, length, drop}
-use Rattle.model.specs.Graph.{Graph}
+use Rattle.model.specs.Places.{count}
+use Rattle.model.specs.Graph.{Graph, source, sink}
+use Rattle.model.specs.Cycle.{Walk, Acyclic}
 use Rattle.model.specs.Bounds.{ThePath}
-use Rattle.model.specs.Schedule.{Schedule}
-use Rattle.model.specs.ListSchedule.{listSchedule}
-use Rattle.graph.specs.File.{noGraph}
+use Rattle.model.specs.Schedule.{Schedule, FinishOf, Finish}
+use Rattle.model.specs.ListSchedule.{begin, steps, listSchedule}
+use Rattle.graph.specs.File.{many, graphOf, noGraph}
 use Rattle.graph.specs.Model.{asModel}
 use Rattle.graph.specs.Rules.{holds, places}
 use Rattle.graph.specs.Judge.{readOf, Rightly}
 use Rattle.graph.specs.declared.Refusal.{Refusal}
+use Rattle.graph.specs.declared.Taken.{Taken}
 use Rattle.graph.specs.declared.Answer.the-variants.{Accepted, Refused}
-use Rattle.schedule.specs.Start.{timesOf}
+use Rattle.writer.specs.Lists.{Lists}
+use Rattle.writer.specs.Write.{fileOf}
+use Rattle.writer.specs.declared.Wrote.{Wrote}
+use Rattle.writer.specs.declared.Wrote.the-variants.{Bytes as Wrote-bytes, Refused as NotWritten}
+use Rattle.tick.specs.Run.{recordOf}
+use Rattle.tick.specs.declared.Run.{Run}
+use Rattle.times.specs.Times.{timesOf}
 
 abbrev pub Bytes : List ℕ → Type 0
 Bytes s = (i : ℕ) → getD s i 0 < 256
@@ -34,8 +51,41 @@ IsAccepted s = readOf s .answer ≡ Accepted
 abbrev pub graphIn : List ℕ → Graph
 graphIn s = asModel (readOf s .graph)
 
+abbrev pub drawnIn : List ℕ → Graph
+drawnIn s = asModel (graphOf s)
+
 abbrev pub schedule : List ℕ → List ℕ → Schedule
 schedule s e = listSchedule (graphIn s) (timesOf e)
+
+abbrev pub runAt : List ℕ → List ℕ → ℕ → Run
+runAt s e t = recordOf (readOf s .graph .n) t (steps (graphIn s) t (begin (timesOf e)))
+
+-- the refusal of a number at place 0
+abbrev pub at-0 : ℕ → Refusal
+at-0 number = record { number = number; place = 0 }
+
+abbrev pub NoneFrom : ℕ → ℕ → List ℕ → Type 0
+NoneFrom a b s = (num k : ℕ) → a ≤ num → num < b → k < places s num → holds s num k ≡ false
+
+abbrev pub Closed : Graph → Type 0
+Closed G = (v : ℕ) × Walk G v v
+
+pub data Answered (s : List ℕ) (t : Taken) : Type 0 where
+  taken : t .answer ≡ Accepted → NoneFrom 1 13 s → t .graph ≡ graphOf s → Answered s t
+  refused : {r : Refusal} → t .answer ≡ Refused r → Rightly 1 s r → t .graph ≡ noGraph → Answered s t
+
+pub record Sound (s : List ℕ) : Type 0 where
+  pub in-form : NoneFrom 1 11 s
+  pub acyclic : Acyclic (drawnIn s)
+  pub one-source : count (source (drawnIn s)) (many s 1) ≡ 1
+  pub one-sink : count (sink (drawnIn s)) (many s 1) ≡ 1
+
+pub data WriteAnswered (g : Lists) (old : List ℕ) : Wrote → List ℕ → Type 0 where
+  unlike : (length (g .kinds) ≡ length (g .wcets) → ⊥) → WriteAnswered g old (NotWritten (at-0 13)) old
+  refused : {r : Refusal} → length (g .kinds) ≡ length (g .wcets) → Rightly 4 (fileOf g) r → WriteAnswered g old (NotWritten r) old
+  narrow : length (g .kinds) ≡ length (g .wcets) → NoneFrom 4 13 (fileOf g) → length old < length (fileOf g) → WriteAnswered g old (NotWritten (at-0 15)) old
+  wrote : length (g .kinds) ≡ length (g .wcets) → NoneFrom 4 13 (fileOf g) → length (fileOf g) ≤ length old
+      → WriteAnswered g old (Wrote-bytes (length (fileOf g))) (fileOf g ++ drop (length (fileOf g)) old)
 
 pub record PathLent (s old new : List ℕ) (n : ℕ) : Type 0 where
   pub path : List ℕ
@@ -43,9 +93,8 @@ pub record PathLent (s old new : List ℕ) (n : ℕ) : Type 0 where
   pub many : n ≡ length path
   pub lent : new ≡ path ++ drop n old
 
-abbrev pub NoNumber : List ℕ → Type 0
-NoNumber s = (num k : ℕ) → 1 ≤ num → num < 13 → k < places s num → holds s num k ≡ false
-
-pub data Answered (s : List ℕ) : Type 0 where
-  taken : IsAccepted s → NoNumber s → Answered s
-  refused : (r : Refusal) → readOf s .answer ≡ Refused r → Rightly 1 s r → readOf s .graph ≡ noGraph → Answered s
+pub record RunLent (s e old new : List ℕ) (F : ℕ) : Type 0 where
+  pub finish : Finish (graphIn s) (schedule s e) F
+  pub instants : (v : ℕ) → v < readOf s .graph .n → FinishOf (graphIn s) (schedule s e) v (getD new v 0)
+  pub as-long : length new ≡ length old
+  pub kept : (i : ℕ) → readOf s .graph .n ≤ i → getD new i 0 ≡ getD old i 0

@@ -2,7 +2,7 @@
 --
 --   Row            a line of the table
 --   Right          what a line says
---   table          all lines
+--   rows           all lines
 use mathlib.Core.Path.{_≡_}
 use mathlib.Core.List.{List, [], _∷_, _++_}
 use Prim.Native.Nat.{ℕ, _/_}
@@ -24,14 +24,14 @@ pub data Row : Type 0 where
   no-file : (file : List ℕ) (number place : ℕ) → Row
   no-start : (file times : List ℕ) (number place : ℕ) → Row
 
-pub record Bounded (file : List ℕ) (old new ticks : ℕ) (path : List ℕ) : Type 0 where
+pub record HasBounds (file : List ℕ) (old new ticks : ℕ) (path : List ℕ) : Type 0 where
   pub is-accepted : IsAccepted file
   pub has-old : OldB (graphIn file) old
   pub has-new : NewB1 (graphIn file) new
   pub has-ticks : new / PARTS ≡ ticks
   pub has-path : ThePath (graphIn file) path
 
-pub record Played (file times finishes : List ℕ) (finish : ℕ) : Type 0 where
+pub record HasRun (file times finishes : List ℕ) (finish : ℕ) : Type 0 where
   pub answer : playOf file times (length finishes) ≡ Finish (record { 0 = finish })
   pub lent : finishesOf file times (replicate (length finishes) 0) ≡ finishes
 
@@ -39,8 +39,8 @@ abbrev refusedWith : ℕ → ℕ → Answer
 refusedWith number place = Refused (record { number = number; place = place })
 
 abbrev pub Right : Row → Type 0
-Right (bounds file old new ticks path) = Bounded file old new ticks path
-Right (run file times finishes finish) = Played file times finishes finish
+Right (bounds file old new ticks path) = HasBounds file old new ticks path
+Right (run file times finishes finish) = HasRun file times finishes finish
 Right (no-file file number place) = readOf file .answer ≡ refusedWith number place
 Right (no-start file times number place) = startOf file times .answer ≡ refusedWith number place
 
@@ -79,8 +79,8 @@ fileF = kind 0 1 ++ vertex 0 0 0
 
 -- ---- the table
 
-abbrev pub table : List Row
-table =
+abbrev pub rows : List Row
+rows =
     -- A
     bounds fileA 14174160 13693680 19 (0 ∷ 1 ∷ 3 ∷ [])
     ∷ run fileA (4 ∷ 9 ∷ 6 ∷ 3 ∷ []) (4 ∷ 13 ∷ 10 ∷ 16 ∷ []) 16

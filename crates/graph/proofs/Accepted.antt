@@ -28,10 +28,9 @@ use Rattle.graph.specs.declared.Answer.the-variants.{Accepted, Refused}
 use Rattle.graph.proofs.Judging.{none-holds, rightly, all-fit}
 use Rattle.graph.proofs.Orders.{kind-record, vertex-record, edge-record}
 
-module _ (s : List ℕ) (bytes : (i : ℕ) → getD s i 0 < 256) (ok : judgeFrom 1 s ≡ Accepted) where
-  quiet : (num : ℕ) → 1 ≤ num → num < 13 → (k : ℕ) → k < places s num → holds s num k ≡ false
-  quiet num f l k d = none-holds 1 s ok num f l k d
+-- ---- where none of the numbers up to 10 applies
 
+module _ (s : List ℕ) (bytes : (i : ℕ) → getD s i 0 < 256) (quiet : (num : ℕ) → 1 ≤ num → num < 11 → (k : ℕ) → k < places s num → holds s num k ≡ false) where
   known : (k : ℕ) → k < records s → rule2 s k ≡ false
   unfolding places holds
   known = quiet 2 (lit≤ tt) (lit< tt)
@@ -146,7 +145,7 @@ module _ (s : List ℕ) (bytes : (i : ℕ) → getD s i 0 < 256) (ok : judgeFrom
       let h : leb (keyAt s (suc j)) (keyAt s j) ≡ false = simp (lt-ltb 0 (suc j) (omega arith), d, a, b) at (quiet 10 (lit≤ tt) (lit< tt) (suc j) (omega (arith, all-fit s))) in
       rw (key-at i (omega arith), key-at (suc i) l, e) (leb-false (keyAt s (suc j)) (keyAt s j) h)
 
-  -- ---- the whole graph
+  -- ---- the graph
 
   edge-found : (u v : ℕ) → Edge (asModel (graphOf s)) u v → (i : ℕ) × (i < many s 2) × (from (graphOf s) i ≡ u) × (to (graphOf s) i ≡ v)
   unfolding asModel joins graphOf
@@ -155,7 +154,7 @@ module _ (s : List ℕ) (bytes : (i : ℕ) → getD s i 0 < 256) (ok : judgeFrom
       let i = r .0 in
       (i, r .1, eqb-true (from (graphOf s) i) u (left-of (eqb (from (graphOf s) i) u) (eqb (to (graphOf s) i) v) (r .2)), eqb-true (to (graphOf s) i) v (right-of (eqb (from (graphOf s) i) u) (eqb (to (graphOf s) i) v) (r .2)))
 
-  well-formed : WellFormed (asModel (graphOf s))
+  pub well-formed : WellFormed (asModel (graphOf s))
   unfolding asModel graphOf
   well-formed =
       record {
@@ -167,36 +166,45 @@ module _ (s : List ℕ) (bytes : (i : ℕ) → getD s i 0 < 256) (ok : judgeFrom
         few-cores = λ k l. rw (cores-at k l) (kind-row k l .few);
       }
 
+-- ---- where no number applies
+
+module _ (s : List ℕ) (bytes : (i : ℕ) → getD s i 0 < 256) (ok : judgeFrom 1 s ≡ Accepted) where
+  none : (num : ℕ) → 1 ≤ num → num < 13 → (k : ℕ) → k < places s num → holds s num k ≡ false
+  none num f l k d = none-holds 1 s ok num f l k d
+
+  quiet : (num : ℕ) → 1 ≤ num → num < 11 → (k : ℕ) → k < places s num → holds s num k ≡ false
+  quiet num f l k d = none num f (omega arith) k d
+
   no-cycle : Acyclic (asModel (graphOf s))
   unfolding places holds rule11
-  no-cycle = acyclic-test well-formed (quiet 11 (lit≤ tt) (lit< tt) 0 (lit< tt))
+  no-cycle = acyclic-test (well-formed s bytes quiet) (none 11 (lit≤ tt) (lit< tt) 0 (lit< tt))
 
   one-source : count (source (asModel (graphOf s))) (many s 1) ≡ 1
   unfolding places holds rule12
   one-source =
-      let x = or-neither (not (eqb (count (source (asModel (graphOf s))) (many s 1)) 1)) _ (quiet 12 (lit≤ tt) (lit< tt) 0 (lit< tt)) in
+      let x = or-neither (not (eqb (count (source (asModel (graphOf s))) (many s 1)) 1)) _ (none 12 (lit≤ tt) (lit< tt) 0 (lit< tt)) in
       eqb-true (count (source (asModel (graphOf s))) (many s 1)) 1 (not-false (eqb (count (source (asModel (graphOf s))) (many s 1)) 1) (x .0))
 
   one-sink : count (sink (asModel (graphOf s))) (many s 1) ≡ 1
   unfolding places holds rule12
   one-sink =
-      let x = or-neither (not (eqb (count (source (asModel (graphOf s))) (many s 1)) 1)) (not (eqb (count (sink (asModel (graphOf s))) (many s 1)) 1)) (quiet 12 (lit≤ tt) (lit< tt) 0 (lit< tt)) in
+      let x = or-neither (not (eqb (count (source (asModel (graphOf s))) (many s 1)) 1)) (not (eqb (count (sink (asModel (graphOf s))) (many s 1)) 1)) (none 12 (lit≤ tt) (lit< tt) 0 (lit< tt)) in
       eqb-true (count (sink (asModel (graphOf s))) (many s 1)) 1 (not-false (eqb (count (sink (asModel (graphOf s))) (many s 1)) 1) (x .1))
 
   pub accepted : AcceptedGraph (graphOf s)
   unfolding graphOf
   accepted =
       record {
-        few-kinds = few-kinds;
-        some-vertex = some-vertex;
-        few-vertices = few-vertices;
-        few-edges = few-edges;
-        well-formed = well-formed;
+        few-kinds = few-kinds s bytes quiet;
+        some-vertex = some-vertex s bytes quiet;
+        few-vertices = few-vertices s bytes quiet;
+        few-edges = few-edges s bytes quiet;
+        well-formed = well-formed s bytes quiet;
         acyclic = no-cycle;
-        short = λ v l. rw (wcet-at v l) (vertex-row v l .short);
-        from-known = from-known;
-        to-known = to-known;
-        ascending = ascending;
+        short = λ v l. rw (wcet-at s bytes quiet v l) (vertex-row s bytes quiet v l .short);
+        from-known = from-known s bytes quiet;
+        to-known = to-known s bytes quiet;
+        ascending = ascending s bytes quiet;
         one-source = one-source;
         one-sink = one-sink;
         kind-past = λ v l. padded-past 128 (column s (many s 0) 2) (many s 1) v l;

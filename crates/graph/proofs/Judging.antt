@@ -3,24 +3,18 @@ use mathlib.Core.Path.{_≡_, refl, ap, _∙_, fun-ext}
 use mathlib.Core.Logic.{_⊎_, inl, inr}
 use mathlib.Core.Bool.{Bool, true, false, not}
 use mathlib.Core.List.{List}
-use Prim.Native.Nat.{ℕ, zero, suc, _+_, _-_, _%_, _≤_, _<_, min, zero-le, suc-le-suc}
-use native.Mathlib.Nat.{le-of-suc-le-suc, not-suc-le-zero}
+use Prim.Native.Nat.{ℕ, zero, suc, _+_, _-_, _%_, _≤_, _<_}
 use native.Mathlib.Omega.{arith}
-use native.Mathlib.Decide.{ℕ-discrete}
 use lib.ListN.{length}
 use lib.Dec.{eqb, ltb, lit<, lit≤}
 use borrow.Author.Tests.{lt-ltb, le-ltb, ltb-true, ltb-false}
 use Rattle.model.specs.Places.{pick, bit, first, count}
-use Rattle.model.specs.Cycle.{cyclic}
-use Rattle.model.proofs.Bools.{clash, cases, le-or-lt, or-neither}
-use Rattle.model.proofs.Places.{first-at, first-none, first-le, first-below, first-here}
-use Rattle.graph.specs.File.{records, byteAt, order, isOrder, many, graphOf}
-use Rattle.graph.specs.Model.{asModel}
-use Rattle.graph.specs.Rules.{holds, perRecord, places, rule1, rule4, rule6, rule8, rule11, rule12}
-use Rattle.graph.specs.Judge.{placeOf, applies, lowest, judgeFrom, Rightly, takenFrom}
-use Rattle.graph.specs.Steps.{Counted, Fitting, lowestIn, refusedWith, astray, lastOf, takenOf}
+use Rattle.model.proofs.Bools.{clash, le-or-lt, or-neither}
+use Rattle.model.proofs.Places.{first-at, first-none, first-below, first-here}
+use Rattle.graph.specs.File.{records, byteAt, order, isOrder, many}
+use Rattle.graph.specs.Rules.{holds, perRecord, places, rule1}
+use Rattle.graph.specs.Judge.{placeOf, applies, lowest, judgeFrom, Rightly}
 use Rattle.graph.specs.declared.Refusal.{Refusal}
-use Rattle.graph.specs.declared.file.Counts.{Counts}
 use Rattle.graph.specs.declared.Answer.the-variants.{Accepted, Refused}
 
 -- a number that does not apply holds for no place
@@ -30,25 +24,17 @@ not-applies s num h k l =
     first-below (holds s num) (places s num) k (omega (arith, l, ltb-false (first (holds s num) (places s num)) (places s num) h))
 
 -- a number that is tested for place 0 alone
-whole-place : (s : List ℕ) (num : ℕ) → perRecord num ≡ false → holds s num 0 ≡ true → placeOf s num ≡ 0
+pub whole-place : (s : List ℕ) (num : ℕ) → perRecord num ≡ false → holds s num 0 ≡ true → placeOf s num ≡ 0
 unfolding placeOf places first
 whole-place s num h e = rw (h, e) refl
 
-whole-applies : (s : List ℕ) (num : ℕ) → perRecord num ≡ false → holds s num 0 ≡ true → applies s num ≡ true
+pub whole-applies : (s : List ℕ) (num : ℕ) → perRecord num ≡ false → holds s num 0 ≡ true → applies s num ≡ true
 unfolding applies places
 whole-applies s num h e = rw (whole-place s num h e, h) refl
 
-whole-not : (s : List ℕ) (num : ℕ) → perRecord num ≡ false → holds s num 0 ≡ false → applies s num ≡ false
+pub whole-not : (s : List ℕ) (num : ℕ) → perRecord num ≡ false → holds s num 0 ≡ false → applies s num ≡ false
 unfolding applies placeOf places first
 whole-not s num h e = rw (h, e) refl
-
-pub few-places : (s : List ℕ) (num : ℕ) → length s ≤ 9320 → places s num ≤ 1165
-unfolding places
-few-places s num h = go (perRecord num)
-  where
-    go : (b : Bool) → pick b (records s) 1 ≤ 1165
-    go true = omega arith
-    go false = omega arith
 
 -- each record is of one kind at most, so the counts fit into the records
 one-order : (s : List ℕ) (k : ℕ) → bit (isOrder s 0 k) + bit (isOrder s 1 k) + bit (isOrder s 2 k) ≤ 1
@@ -105,111 +91,20 @@ module _ (s : List ℕ) (a : ℕ) where
   unfolding lowest
   lowest-from = omega arith
 
-  lowest-above : (num : ℕ) → a ≤ num → num ≤ 13 → ((j : ℕ) → j < num → a ≤ j → applies s j ≡ false) → num ≤ lowest a s
+  pub lowest-above : (num : ℕ) → a ≤ num → num ≤ 13 → ((j : ℕ) → j < num → a ≤ j → applies s j ≡ false) → num ≤ lowest a s
   lowest-above num f u below = go (le-or-lt num (lowest a s))
     where
       go : (num ≤ lowest a s) ⊎ (lowest a s < num) → num ≤ lowest a s
       go (inl p) = p
       go (inr p) = absurd (clash (lowest-applies (omega arith)) (below (lowest a s) p lowest-from))
 
-  -- what the search over the numbers up to 10 gives
-  pub found-at : (num : ℕ) → a ≤ num → num < 11 → ((j : ℕ) → j < num → a ≤ j → applies s j ≡ false) → applies s num ≡ true
-      → lowestIn a s ≡ record { number = num; place = placeOf s num }
-  unfolding lowestIn
-  found-at num f l below h =
-      let m : min num 11 ≡ num = omega arith in
-      rw (lowest-at num f below (omega arith) h, m, lt-ltb num 11 l) refl
-
-  pub found-none : a ≤ 11 → ((j : ℕ) → j < 11 → a ≤ j → applies s j ≡ false) → lowestIn a s ≡ record { number = 11; place = 0 }
-  unfolding lowestIn
-  found-none f below =
-      let l : 11 ≤ lowest a s = lowest-above 11 f (lit≤ tt) below in
-      let m : min (lowest a s) 11 ≡ 11 = omega arith in
-      rw (m, le-ltb (lowest a s) 11 l) refl
-
-  judge-at : (num : ℕ) → num < 13 → lowest a s ≡ num → judgeFrom a s ≡ Refused (record { number = num; place = placeOf s num })
+  pub judge-at : (num : ℕ) → num < 13 → lowest a s ≡ num → judgeFrom a s ≡ Refused (record { number = num; place = placeOf s num })
   unfolding judgeFrom
   judge-at num l e = rw (e, lt-ltb num 13 l)
 
-  judge-none : lowest a s ≡ 13 → judgeFrom a s ≡ Accepted
+  pub judge-none : lowest a s ≡ 13 → judgeFrom a s ≡ Accepted
   unfolding judgeFrom
   judge-none e = rw e refl
-
-  -- a number up to 10 is found on the records
-  pub taken-found : lowestIn a s .number < 11 → takenFrom a s ≡ refusedWith (lowestIn a s)
-  unfolding lowestIn
-  taken-found h =
-      let l : lowest a s < 11 = omega arith in
-      let e : min (lowest a s) 11 ≡ lowest a s = omega arith in
-      rw (judge-at (lowest a s) (omega arith) refl, e, lt-ltb (lowest a s) 11 l) refl
-
-  module _ (from : a ≤ 4) (none : 11 ≤ lowestIn a s .number) where
-    past : (j : ℕ) → j < 11 → a ≤ j → applies s j ≡ false
-    unfolding lowestIn
-    past j l f = below-lowest j f (omega arith) (omega arith)
-
-    -- the numbers 4, 6 and 8 bound the counts
-    few-kinds : many s 0 ≤ 10
-    unfolding places holds rule4
-    few-kinds = ltb-false 10 (many s 0) (or-neither (eqb (many s 0) 0) (ltb 10 (many s 0)) (not-applies s 4 (past 4 (lit< tt) (omega arith)) 0 (lit< tt)) .1)
-
-    few-vertices : many s 1 ≤ 128
-    unfolding places holds rule6
-    few-vertices = ltb-false 128 (many s 1) (or-neither (eqb (many s 1) 0) (ltb 128 (many s 1)) (not-applies s 6 (past 6 (lit< tt) (omega arith)) 0 (lit< tt)) .1)
-
-    few-edges : many s 2 ≤ 1024
-    unfolding places holds rule8
-    few-edges = ltb-false 1024 (many s 2) (not-applies s 8 (past 8 (lit< tt) (omega arith)) 0 (lit< tt))
-
-    pub fitting : (c : Counts) → Counted s c → Fitting s c
-    fitting c n =
-        record {
-          counted = n;
-          few-kinds = omega (arith, n .all-kinds, few-kinds);
-          few-vertices = omega (arith, n .all-vertices, few-vertices);
-          few-edges = omega (arith, n .all-edges, few-edges);
-          all-fit = omega (arith, n .all-kinds, n .all-vertices, n .all-edges, all-fit s);
-        }
-
-    row-11 : holds s 11 0 ≡ cyclic (asModel (graphOf s))
-    unfolding holds rule11
-    row-11 = refl
-
-    row-12 : holds s 12 0 ≡ astray (graphOf s)
-    unfolding holds rule12 astray graphOf
-    row-12 = refl
-
-    -- then the numbers 11 and 12 are said of the graph that the records give
-    pub taken-rest : takenFrom a s ≡ takenOf (graphOf s)
-    unfolding takenOf lastOf
-    taken-rest = go (cases (cyclic (asModel (graphOf s)))) (cases (astray (graphOf s)))
-      where
-        go : (cyclic (asModel (graphOf s)) ≡ true) ⊎ (cyclic (asModel (graphOf s)) ≡ false) → (astray (graphOf s) ≡ true) ⊎ (astray (graphOf s) ≡ false)
-            → takenFrom a s ≡ takenOf (graphOf s)
-        go (inl c) x =
-            let e : lowest a s ≡ 11 = lowest-at 11 (omega arith) past (lit< tt) (whole-applies s 11 refl (row-11 ∙ c)) in
-            rw (judge-at 11 (lit< tt) e, whole-place s 11 refl (row-11 ∙ c), c) refl
-        go (inr c) (inl x) =
-            let e : lowest a s ≡ 12 = lowest-at 12 (omega arith) past-11 (lit< tt) (whole-applies s 12 refl (row-12 ∙ x)) in
-            rw (judge-at 12 (lit< tt) e, whole-place s 12 refl (row-12 ∙ x), c, x) refl
-          where
-            past-11 : (j : ℕ) → j < 12 → a ≤ j → applies s j ≡ false
-            past-11 j l f = at j l f (ℕ-discrete j 11)
-              where
-                at : (j : ℕ) → j < 12 → a ≤ j → Dec (j ≡ 11) → applies s j ≡ false
-                at j l f (yes q) = rw q (whole-not s 11 refl (row-11 ∙ c))
-                at j l f (no q) = past j (omega arith) f
-        go (inr c) (inr x) =
-            let e : lowest a s ≡ 13 = lowest-past 13 (omega arith) past-12 refl in
-            rw (judge-none e, c, x) refl
-          where
-            past-12 : (j : ℕ) → j < 13 → a ≤ j → applies s j ≡ false
-            past-12 j l f = at j l f (ℕ-discrete j 11) (ℕ-discrete j 12)
-              where
-                at : (j : ℕ) → j < 13 → a ≤ j → Dec (j ≡ 11) → Dec (j ≡ 12) → applies s j ≡ false
-                at j l f (yes q) y = rw q (whole-not s 11 refl (row-11 ∙ c))
-                at j l f (no q) (yes y) = rw y (whole-not s 12 refl (row-12 ∙ x))
-                at j l f (no q) (no y) = past j (omega arith) f
 
 -- where number 1 applies it is given, and where it does not the judgement starts at 2
 first-skip : (p q : ℕ → Bool) (n : ℕ) → p zero ≡ false → ((k : ℕ) → p (suc k) ≡ q k) → first p (suc n) ≡ suc (first q n)
@@ -279,3 +174,20 @@ rightly a s r h = go (ltb (lowest a s) 13) refl h
         → Rightly a s r
     go true e q = let f : record { number = lowest a s; place = placeOf s (lowest a s) } ≡ r = cc in rw (← f) (here (ltb-true (lowest a s) 13 e))
     go false e q = absurd (let z : _≡_ {A = ℕ} 0 1 = cc in omega arith)
+
+-- ---- and the other way round
+
+not-for-any : (s : List ℕ) (num : ℕ) → ((k : ℕ) → k < places s num → holds s num k ≡ false) → applies s num ≡ false
+unfolding applies placeOf
+not-for-any s num h = rw (first-none (holds s num) (places s num) h) (le-ltb (places s num) (places s num) (omega arith))
+
+-- where no row holds for any place, the file is accepted
+pub accepts : (a : ℕ) (s : List ℕ) → a ≤ 13 → ((num k : ℕ) → a ≤ num → num < 13 → k < places s num → holds s num k ≡ false) → judgeFrom a s ≡ Accepted
+accepts a s l h = judge-none s a (lowest-past s a 13 l (λ j b f. not-for-any s j (λ k d. h j k f b d)) refl)
+
+-- where none below it does, a number that is said of the whole file is given, at place 0
+pub refuses : (a : ℕ) (s : List ℕ) (num : ℕ) → a ≤ num → num < 13 → ((j k : ℕ) → a ≤ j → j < num → k < places s j → holds s j k ≡ false)
+    → perRecord num ≡ false → holds s num 0 ≡ true → judgeFrom a s ≡ Refused (record { number = num; place = 0 })
+refuses a s num f l h w e =
+    let at : lowest a s ≡ num = lowest-at s a num f (λ j b g. not-for-any s j (λ k d. h j k g b d)) l (whole-applies s num w e) in
+    rw (judge-at s a num l at, whole-place s num w e) refl

@@ -3,7 +3,4 @@ pub mod File
 pub mod Model
 pub mod Rules
 pub mod Judge
--- What only private functions speak of.
-pub mod Steps
-pub mod Marks
-pub mod Ranks
+pub mod Said

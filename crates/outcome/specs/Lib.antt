@@ -1,2 +1,3 @@
 pub mod OneOutcome
 pub mod Stated
+pub mod Allows

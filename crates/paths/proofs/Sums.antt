@@ -23,7 +23,7 @@ use Rattle.model.proofs.Paths.{to-sink, path-short, source-tells, unraised}
 use Rattle.graph.specs.Model.{AcceptedGraph, asModel, from, to}
 use Rattle.graph.specs.declared.Graph.{Graph}
 use Rattle.graph.proofs.Edges.{edge-at, edge-place}
-use Rattle.starts.specs.Starts.{startOf}
+use Rattle.starts.specs.Starts.{firstEdge}
 use Rattle.starts.proofs.Together.{start-within, start-below, start-above, start-later}
 use Rattle.paths.specs.Ahead.{weigh, sumAt, Light, Ahead, Summed, RowsOf, Weighed}
 use Rattle.paths.specs.Sweep.{marked, goes, Given, Follows, Laid, Known, Swept}
@@ -95,8 +95,8 @@ within-none W A k v l h = let t = to-sink W (ranked W A) v l in absurd (omega (a
 
 -- the rows of an accepted graph
 module _ {g : Graph} {e st : List ℕ} (R : RowsOf g e st) where
-  starts-at : (u : ℕ) → u < 129 → getD st u 0 ≡ startOf g u
-  starts-at u l = ap (λ (x : List ℕ). getD x u 0) (R .starts) ∙ table-at (startOf g) 129 u l
+  starts-at : (u : ℕ) → u < 129 → getD st u 0 ≡ firstEdge g u
+  starts-at u l = ap (λ (x : List ℕ). getD x u 0) (R .starts) ∙ table-at (firstEdge g) 129 u l
 
   pub goes-to : (i : ℕ) → goes e i ≡ to g i
   unfolding to
@@ -116,16 +116,16 @@ module _ {g : Graph} {e st : List ℕ} (R : RowsOf g e st) where
   unfolding asModel
   row-of u v d =
       let r = edge-place g u v d in
-      (r .place, low (r .place) (r .is-from) (le-or-lt (startOf g u) (r .place)), high (r .place) (r .within) (r .is-from) (le-or-lt (startOf g (u + 1)) (r .place)), goes-to (r .place) ∙ r .is-to)
+      (r .place, low (r .place) (r .is-from) (le-or-lt (firstEdge g u) (r .place)), high (r .place) (r .within) (r .is-from) (le-or-lt (firstEdge g (u + 1)) (r .place)), goes-to (r .place) ∙ r .is-to)
     where
       few : u < 128
       few = omega (arith, R .accepted .well-formed .from u v d, R .accepted .few-vertices)
 
-      low : (i : ℕ) → from g i ≡ u → (startOf g u ≤ i) ⊎ (i < startOf g u) → getD st u 0 ≤ i
+      low : (i : ℕ) → from g i ≡ u → (firstEdge g u ≤ i) ⊎ (i < firstEdge g u) → getD st u 0 ≤ i
       low i q (inl a) = omega (arith, starts-at u (omega (arith, few)))
       low i q (inr a) = absurd (omega (arith, start-below g u i a))
 
-      high : (i : ℕ) → i < g .edges → from g i ≡ u → (startOf g (u + 1) ≤ i) ⊎ (i < startOf g (u + 1)) → i < getD st (u + 1) 0
+      high : (i : ℕ) → i < g .edges → from g i ≡ u → (firstEdge g (u + 1) ≤ i) ⊎ (i < firstEdge g (u + 1)) → i < getD st (u + 1) 0
       high i m q (inl a) = absurd (omega (arith, start-above (R .accepted) (u + 1) i a m))
       high i m q (inr a) = omega (arith, starts-at (u + 1) (omega (arith, few)))
 

@@ -1,3 +1,5 @@
+-- For our own layers alone: no contract for callers and no claim cites this file.
+--
 -- What lies ahead of a vertex: the weights of the vertices after it on a path to a sink. Its own weight does not count, so
 -- that a sink has 0 ahead of it, and the sum of a path is the first vertex's weight and what lies ahead.
 --
@@ -19,7 +21,7 @@ use Rattle.model.specs.Graph.{Graph, Source}
 use Rattle.model.specs.Path.{ToSink}
 use Rattle.graph.specs.declared.Graph as reader
 use Rattle.graph.specs.Model.{AcceptedGraph, asModel}
-use Rattle.starts.specs.Starts.{startOf}
+use Rattle.starts.specs.Starts.{firstEdge}
 use Rattle.paths.specs.declared.ahead.Sums.{Sums}
 
 abbrev pub weigh : List ℕ → ℕ → ℕ
@@ -55,7 +57,7 @@ pub record Summed (G : Graph) (f : ℕ → ℕ) (r : Sums) : Type 0 where
 pub record RowsOf (g : reader.Graph) (e st : List ℕ) : Type 0 where
   pub accepted : AcceptedGraph g
   pub edge : e ≡ g .edge
-  pub starts : st ≡ table (startOf g) 129
+  pub starts : st ≡ table (firstEdge g) 129
 
 pub record Weighed (g : reader.Graph) (e st : List ℕ) (n : ℕ) (w : List ℕ) : Type 0 where
   pub rows : RowsOf g e st

@@ -1,3 +1,5 @@
+-- For our own layers alone: no contract for callers and no claim cites this file.
+--
 -- What lies ahead of a vertex follows from its successors once it is known of all of them. A sweep visits every vertex, and takes up
 -- those of which it follows. Only private contracts cite this file: over the lists that the code has, an edge list e, the starts st
 -- of the vertices' edges in it, weights w, sums s, marks k of the vertices whose sums are known, and h, the last one to be taken up.

@@ -1,3 +1,5 @@
+-- For our own layers alone: no contract for callers and no claim cites this file.
+--
 -- The least path with the largest sum, step by step: to the least successor that keeps the sum.
 --
 --   Trace G f s u p         p is what such steps give after u

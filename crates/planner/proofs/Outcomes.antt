@@ -7,10 +7,10 @@ use Rattle.outcome.specs.OneOutcome.{OneOutcome}
 use Rattle.outcome.specs.Stated.{Stated}
 use Rattle.bounds.proofs.Unique.{bounds-unique, path-of-unique}
 use Rattle.schedule.specs.Tick.{tickOf}
-use Rattle.planner.specs.Coded.{codedBounds, codedPath, BoundsCoded, PathCoded}
-use Rattle.planner.specs.CodedRun.{codedReport}
-use Rattle.planner.specs.declared.PlannerBounds.{PlannerBounds}
-use Rattle.planner.specs.declared.PlannerCount.{PlannerCount}
+use Rattle.codes.specs.Coded.{codedBounds, codedPath, BoundsCoded, PathCoded}
+use Rattle.codes.specs.CodedRun.{codedReport}
+use Rattle.codes.specs.declared.PlannerBounds.{PlannerBounds}
+use Rattle.codes.specs.declared.PlannerCount.{PlannerCount}
 use Rattle.planner.proofs.planner_read as read
 use Rattle.planner.proofs.planner_read.Reads as read-reads
 use Rattle.planner.proofs.planner_write as write

@@ -1,2 +1,1 @@
-pub mod Coded
-pub mod CodedRun
+pub mod Stepped

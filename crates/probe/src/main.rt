@@ -2,22 +2,19 @@
 // payload length, low byte first, and the payload; each is answered by one line, at once.
 ghost use Prim.Native.Nat.{_≤_};
 
-mod answers;
-mod judges;
-mod lists;
-mod print;
-mod reads;
-mod runs;
-mod wire;
-mod writes;
+fn smaller(a: u64, b: usize) -> usize
+    ensures { λ r. ⌜ (r ≤ a) × (r ≤ b) ⌝ }
+{
+    if a < b as u64 { a as usize } else { b }
+}
 
 // Reads some of so many bytes, and drops them.
 fn drop_some(left: u64, space: &mut [u8]) -> u64
     ensures { λ r. ⌜ r ≤ left ⌝ }
 {
-    let want = if left < 65536 { left as usize } else { 65536 };
-    let got = io::read_full(0, lists::lend_bytes(space, want)) as u64;
-    if got < left { got } else { left }
+    let want = smaller(left, space.len());
+    let got = io::read_full(0, &mut space[0..want]);
+    smaller(left, got) as u64
 }
 
 // Reads and drops so many bytes; whether they were all there.
@@ -35,24 +32,25 @@ fn skip(n: u64, space: &mut [u8]) -> bool {
 
 fn answer(letter: u8, p: &[u8]) {
     match letter {
-        b'R' => reads::request(p),
-        b'W' => writes::request(p),
-        b'B' => judges::bounds_request(p),
-        b'P' => judges::path_request(p),
-        b'S' => runs::start_request(p),
-        b'T' => runs::tick_request(p, false),
-        b'I' => runs::tick_request(p, true),
-        b'X' => runs::run_request(p),
-        _ => answers::bad(),
+        b'R' => probe_files::read_request(p),
+        b'W' => probe_files::write_request(p),
+        b'B' => probe_bounds::bounds_request(p),
+        b'P' => probe_bounds::path_request(p),
+        b'S' => probe_runs::start_request(p),
+        b'T' => probe_runs::tick_request(p, false),
+        b'I' => probe_runs::tick_request(p, true),
+        b'X' => probe_runs::run_request(p),
+        _ => print::bad(),
     }
 }
 
-// The payload of so many bytes, read and answered; whether it was all there.
-fn payload(letter: u8, long: usize, space: &mut [u8]) -> bool {
-    let p = lists::lend_bytes(space, long);
+// The payload of so many bytes, which the space has, read and answered; whether it was all there.
+fn payload(letter: u8, long: u64, space: &mut [u8]) -> bool {
+    let n = smaller(long, space.len());
+    let p = &mut space[0..n];
     let got = io::read_full(0, p);
-    if got < long {
-        answers::bad();
+    if got < n {
+        print::bad();
         return false;
     }
     answer(letter, p);
@@ -67,16 +65,16 @@ fn turn(space: &mut [u8]) -> bool {
         return false;
     }
     if got < 5 {
-        answers::bad();
+        print::bad();
         return false;
     }
-    let long = wire::word(&head, 1);
+    let long = wire::payload(head);
     if long > 65536 {
         let more = skip(long, space);
-        answers::bad();
+        print::bad();
         return more;
     }
-    payload(head[0], long as usize, space)
+    payload(head[0], long, space)
 }
 
 // Requests until the input ends: more turns than any input has.

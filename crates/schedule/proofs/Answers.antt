@@ -1,14 +1,13 @@
 -- From what the reader says of a file, and from what was found for its graph, to the entries' answers.
 use mathlib.Core.Path.{_≡_, refl, sym, ap, _∙_, fun-ext}
-use mathlib.Core.List.{List}
+use mathlib.Core.List.{List, _++_}
 use mathlib.Core.Logic.{⊎-elim}
-use mathlib.Core.Bool.{Bool, true, false}
+use mathlib.Core.Bool.{false}
 use Prim.Native.Nat.{ℕ, _≤_, _<_}
 use native.Mathlib.Omega.{arith}
-use lib.Dec.{eqb, ltb}
-use lib.ListN.{getD, length, List·getD-eq-default}
-use borrow.Author.Tests.{eqb-true, ltb-false, le-ltb}
-use Rattle.model.specs.Places.{pick, first, table}
+use lib.ListN.{getD, length, drop, List·getD-eq-default}
+use borrow.Author.Tests.{le-ltb}
+use Rattle.model.specs.Places.{table}
 use Rattle.model.specs.ListSchedule.{begin}
 use Rattle.model.proofs.Tables.{padded-at, padded-past}
 use Rattle.model.proofs.Bools.{le-or-lt}
@@ -23,16 +22,17 @@ use Rattle.graph.proofs.Accepted.{taken}
 use Rattle.tick.specs.declared.Run.{Run}
 use Rattle.tick.specs.declared.Report.the-variants.{Refused as NoTick}
 use Rattle.tick.specs.Run.{leftOf, recordOf}
-use Rattle.tick.specs.Remains.{place}
-use Rattle.tick.proofs.Turns.{table-ext}
+use Rattle.remains.specs.Remains.{place}
+use Rattle.places.proofs.Turns.{table-ext}
 use Rattle.vset.specs.Members.{isIn}
 use Rattle.vset.proofs.Same.{set-in}
-use Rattle.model.proofs.Places.{first-below}
-use Rattle.schedule.specs.Start.{timesOf, tooLong, judgeTimes, refusedStart, startedOn, startOf}
+use Rattle.times.specs.Times.{timesOf, judgeTimes, Fitting}
+use Rattle.schedule.specs.Start.{refusedStart, startedOn, startOf}
 use Rattle.schedule.specs.Tick.{tickOn, tickOf}
-use Rattle.schedule.specs.Whole.{finishAt, finishOf, Fitting, playIn, playOn, playOf, filledBeside, finishesOf}
-use Rattle.schedule.specs.Leaps.{Fresh, Ran}
-use Rattle.schedule.specs.declared.leaps.Ended.{Ended}
+use Rattle.schedule.specs.Whole.{playIn, playOn, playOf, filledBeside, finishesOf}
+use Rattle.leaps.specs.Finishes.{finishAt, finishOf}
+use Rattle.leaps.specs.Leaps.{Fresh, endOf}
+use Rattle.leaps.specs.declared.Ended.{Ended}
 use Rattle.schedule.specs.declared.Played.{Played}
 use Rattle.schedule.specs.declared.Played.the-variants.{Finish, Refused as NoPlay}
 
@@ -71,22 +71,7 @@ module _ (s : List ℕ) (t : Taken) (e : t ≡ readOf s) where
   unfolding playOf finishesOf
   play-refused x p l old = let q : playOf s l (length old) ≡ NoPlay x = rw (answered (Refused x) p) refl in (sym q, rw q refl)
 
--- ---- the times
-
--- times that are judged to fit, do
-pub times-fit : (g : Graph) (l : List ℕ) → judgeTimes g l ≡ Accepted → Fitting g l
-unfolding judgeTimes tooLong
-times-fit g l ok = go (eqb (length l) (g .n)) refl (ltb (first (tooLong (g .wcet) l) (g .n)) (g .n)) refl ok
-  where
-    go : (a : Bool) → eqb (length l) (g .n) ≡ a → (b : Bool) → ltb (first (tooLong (g .wcet) l) (g .n)) (g .n) ≡ b
-        → _≡_ {A = Answer} (pick a (pick b (Refused (record { number = 14; place = first (tooLong (g .wcet) l) (g .n) })) Accepted) (Refused (record { number = 13; place = 0 }))) Accepted
-        → Fitting g l
-    go false p b q e = absurd (let z : _≡_ {A = ℕ} 0 1 = cc in omega arith)
-    go true p true q e = absurd (let z : _≡_ {A = ℕ} 0 1 = cc in omega arith)
-    go true p false q e = record {
-      as-many = eqb-true (length l) (g .n) p;
-      short = λ v h. ltb-false (getD (g .wcet) v 0) (getD l v 0) (first-below (tooLong (g .wcet) l) (g .n) v (omega (arith, ltb-false (first (tooLong (g .wcet) l) (g .n)) (g .n) q)));
-    }
+-- ---- from the times on
 
 module _ (g : Graph) (l : List ℕ) where
   pub started-refused : (x : Refusal) → judgeTimes g l ≡ Refused x → startedOn g l ≡ refusedStart x
@@ -131,17 +116,30 @@ module _ (g : Graph) (l : List ℕ) where
     }
 
     -- the end of a whole run, as the answer and as the list that is handed over
-    module _ (run : Run) (r : Ended) (is-begun : run ≡ begun) (ran : Ran g (leftOf run) r) where
-      times : leftOf run ≡ timesOf l
-      times = ap leftOf is-begun ∙ times-begun
+    module _ (run : Run) (r : Ended) (is-begun : run ≡ begun) (ends : r ≡ endOf g (leftOf run)) where
+      ended : r ≡ endOf g (timesOf l)
+      ended = ends ∙ ap (endOf g) (ap leftOf is-begun ∙ times-begun)
 
       pub finish-played : (m : ℕ) → g .n ≤ m → _≡_ {A = Played} (Finish (record { 0 = r .instant })) (playIn g l m)
-      unfolding playIn
-      finish-played m h =
-          rw (le-ltb m (g .n) h)
-          (ap {B = Played} (λ (x : ℕ). Finish (record { 0 = x })) (ran .finish ∙ ap (finishOf (asModel g)) times))
+      unfolding playIn endOf
+      finish-played m h = rw (le-ltb m (g .n) h) (ap {B = Played} (λ (x : Ended). Finish (record { 0 = x .instant })) ended)
 
       pub handed-over : table (place (r .finishes)) (g .n) ≡ table (finishAt (asModel g) (timesOf l)) (g .n)
+      unfolding endOf
       handed-over =
           table-ext (place (r .finishes)) (finishAt (asModel g) (timesOf l)) (g .n)
-          (λ v h. ran .instants v h ∙ ap (λ (e : ℕ → ℕ). finishAt (asModel g) e v) times)
+          (λ v h. ap (λ (x : Ended). getD (x .finishes) v 0) ended ∙ padded-at 128 (finishAt (asModel g) (timesOf l)) (g .n) v h)
+
+-- ---- a whole run
+
+module _ (s : List ℕ) (ok : readOf s .answer ≡ Accepted) (e : List ℕ) (fit : judgeTimes (readOf s .graph) e ≡ Accepted) where
+  -- THEOREM. With room for N places or more, a whole run returns the finish.
+  pub run-returns : (room : ℕ) → readOf s .graph .n ≤ room → playOf s e room ≡ Finish (record { 0 = finishOf (asModel (readOf s .graph)) (timesOf e) })
+  unfolding playOf playOn playIn
+  run-returns room h = rw (ok, fit, le-ltb room (readOf s .graph .n) h) refl
+
+  -- THEOREM. It fills the first N places with the finish instants, and the other places keep what they held.
+  pub run-fills : (old : List ℕ) → readOf s .graph .n ≤ length old
+      → finishesOf s e old ≡ table (finishAt (asModel (readOf s .graph)) (timesOf e)) (readOf s .graph .n) ++ drop (readOf s .graph .n) old
+  unfolding finishesOf
+  run-fills old h = rw (run-returns (length old) h) refl

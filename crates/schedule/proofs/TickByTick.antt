@@ -34,10 +34,11 @@ use Rattle.tick.specs.Run.{leftOf, stateOf, recordOf, over, tickedOf}
 use Rattle.tick.specs.Suits.{suits, Suits}
 use Rattle.tick.proofs.Records.{state-record}
 use Rattle.tick.proofs.Suiting.{suits-sound, suits-complete, passed, nothing-left}
-use Rattle.schedule.specs.Start.{timesOf}
-use Rattle.schedule.specs.Whole.{doneAt, finishOf, Fitting}
-use Rattle.schedule.proofs.Moved.{unchosen, moved-state, moved-left, moved-ran, less-left, spend}
-use Rattle.schedule.proofs.Finishes.{finish-of-all}
+use Rattle.times.specs.Times.{timesOf}
+use Rattle.leaps.specs.Finishes.{doneAt, finishOf}
+use Rattle.times.specs.Times.{Fitting}
+use Rattle.tick.proofs.Moved.{unchosen, moved-state, moved-left, moved-ran, less-left, spend}
+use Rattle.leaps.proofs.Finishes.{finish-of-all}
 
 -- the record after t ticks
 unfoldable pub ticked : Graph → ℕ → Run → Run

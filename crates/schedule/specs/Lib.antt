@@ -2,5 +2,3 @@
 pub mod Start
 pub mod Tick
 pub mod Whole
--- What only private functions speak of.
-pub mod Leaps

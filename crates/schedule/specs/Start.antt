@@ -1,17 +1,11 @@
--- Starting a run (document 01, "Schedules", and the numbers 13 and 14).
+-- Starting a run (document 01, "Schedules"). The times are judged as `times` says, specs/Times.
 --
---   timesOf e v           the execution time of v, by the list e
---   tooLong wcet e v      the time of v is above its WCET
---   judgeTimes g e        13 where the list's length isn't the vertex count, then 14 at the first vertex whose time is above its WCET
 --   noRun                 zero and unmarked throughout: what stands beside a refusal
 --   startedOn g e         the answer and record for the graph g
 --   startOf s e           what `start` gives for the file s
-use mathlib.Core.Bool.{Bool}
 use mathlib.Core.List.{List}
 use Prim.Native.Nat.{ℕ}
-use lib.Dec.{eqb, ltb}
-use lib.ListN.{getD, length, replicate}
-use Rattle.model.specs.Places.{pick, first}
+use lib.ListN.{replicate}
 use Rattle.model.specs.ListSchedule.{begin}
 use Rattle.graph.specs.Judge.{readOf}
 use Rattle.graph.specs.declared.Graph.{Graph}
@@ -20,19 +14,8 @@ use Rattle.graph.specs.declared.Answer.{Answer}
 use Rattle.graph.specs.declared.Answer.the-variants.{Accepted, Refused}
 use Rattle.tick.specs.declared.Run.{Run}
 use Rattle.tick.specs.Run.{recordOf}
+use Rattle.times.specs.Times.{timesOf, judgeTimes}
 use Rattle.schedule.specs.declared.Started.{Started}
-
-abbrev pub timesOf : List ℕ → ℕ → ℕ
-timesOf e v = getD e v 0
-
-unfoldable pub tooLong : List ℕ → List ℕ → ℕ → Bool
-tooLong wcet e v = ltb (getD wcet v 0) (getD e v 0)
-
-unfoldable pub judgeTimes : Graph → List ℕ → Answer
-judgeTimes g e =
-    pick (eqb (length e) (g .n))
-    (pick (ltb (first (tooLong (g .wcet) e) (g .n)) (g .n)) (Refused (record { number = 14; place = first (tooLong (g .wcet) e) (g .n) })) Accepted)
-    (Refused (record { number = 13; place = 0 }))
 
 unfoldable pub noRun : Run
 noRun = record { n = 0; instant = 0; left = replicate 128 0; ran = record { lo = 0; hi = 0 } }

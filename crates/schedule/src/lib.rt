@@ -4,9 +4,10 @@ ghost use mathlib.Core.Path.{_≡_};
 ghost use Prim.Native.Nat.{_≤_};
 ghost use lib.ListN.{length};
 ghost use Rattle.graph.specs.Model.{AcceptedGraph};
-ghost use Rattle.schedule.specs.Start.{refusedStart, startedOn, startOf};
+ghost use Rattle.times.specs.Times.{Fitting};
+ghost use Rattle.schedule.specs.Start.{noRun, refusedStart, startedOn, startOf};
 ghost use Rattle.schedule.specs.Tick.{tickOn, tickOf};
-ghost use Rattle.schedule.specs.Whole.{Fitting, playIn, playOn, playOf, filledBeside, finishesOf};
+ghost use Rattle.schedule.specs.Whole.{playIn, playOn, playOf, filledBeside, finishesOf};
 use graph::Answer;
 use graph::Graph;
 use graph::Refusal;
@@ -14,10 +15,9 @@ use tick::Report;
 use tick::Run;
 use tick::Ticked;
 use units::Ticks;
+use vset::Vset;
 
-mod leaps; // leaps.rt: a whole run, from one finish to the next
 mod lent; // lent.rt: the finish instants, handed over to the caller's list
-mod times; // times.rt: the execution times, judged and laid in a run record
 
 // The answer, and the record at instant 0; beside a refusal it is zero and unmarked throughout.
 pub struct Started {
@@ -30,10 +30,23 @@ pub enum Played {
     Refused(Refusal),
 }
 
+// The record that stands beside a refusal.
+fn no_run() -> Run
+    ensures { λ r. ⌜ r ≡ noRun ⌝ }
+{
+    let left = [0u32; 128];
+    Run {
+        n: 0,
+        instant: 0,
+        left,
+        ran: Vset { lo: 0, hi: 0 },
+    }
+}
+
 fn refused_start(refusal: Refusal) -> Started
     ensures { λ r. ⌜ r ≡ refusedStart refusal ⌝ }
 {
-    let run = times::no_run();
+    let run = no_run();
     Started {
         answer: Answer::Refused(refusal),
         run,
@@ -60,7 +73,7 @@ fn start_on(g: Graph, times: &[u32]) -> Started
 pub fn start(file: &[u8], times: &[u32]) -> Started
     ensures { λ r. ⌜ r ≡ startOf (now (file .entry)) (now (times .entry)) ⌝ }
 {
-    let taken = graph::read(file);
+    let taken = reader::read(file);
     let answer = taken.answer;
     match answer {
         Answer::Refused(refusal) => refused_start(refusal),
@@ -92,7 +105,7 @@ fn tick_on(g: Graph, run: Run) -> Ticked
 pub fn tick(run: Run, file: &[u8]) -> Ticked
     ensures { λ r. ⌜ r ≡ tickOf (now (file .entry)) run ⌝ }
 {
-    let taken = graph::read(file);
+    let taken = reader::read(file);
     let answer = taken.answer;
     match answer {
         Answer::Refused(refusal) => Ticked {
@@ -139,7 +152,7 @@ fn play_on(g: Graph, times: &[u32], finishes: &mut [u32]) -> Played
 pub fn run(file: &[u8], times: &[u32], finishes: &mut [u32]) -> Played
     ensures { λ r. ⌜ (r ≡ playOf (now (file .entry)) (now (times .entry)) (length (now (finishes .entry)))) × (now (finishes .exit) ≡ finishesOf (now (file .entry)) (now (times .entry)) (now (finishes .entry))) ⌝ }
 {
-    let taken = graph::read(file);
+    let taken = reader::read(file);
     let answer = taken.answer;
     match answer {
         Answer::Refused(refusal) => Played::Refused(refusal),
@@ -157,7 +170,8 @@ pub fn tick_in_place(run: &mut Run, file: &[u8]) -> Report
 {
     let old = *run;
     let ticked = tick(old, file);
-    *run = ticked.run;
+    let next = ticked.run;
+    *run = next;
     ticked.report
 }
 

@@ -2,6 +2,7 @@
 ghost use mathlib.Core.Path.{_≡_};
 ghost use Prim.Native.Nat.{_≤_};
 ghost use Rattle.graph.specs.Judge.{readOf};
+ghost use Rattle.graph.specs.Model.{AcceptedGraph};
 use bounds::Pathed;
 use graph::Answer;
 use graph::Graph;
@@ -56,9 +57,11 @@ fn vertices(list: &[u8; 128], n: usize)
 }
 
 // No graph has more than 128 vertices, so the room suffices.
-fn path(file: &[u8]) {
+fn path(g: Graph)
+    requires { ⌜ AcceptedGraph g ⌝ }
+{
     let mut out = [0u8; 128];
-    let found = bounds::path(file, &mut out);
+    let found = bounds::path_into(g, &mut out);
     match found {
         Pathed::Refused(r) => refusal(r),
         Pathed::Vertices(n) => {
@@ -69,26 +72,29 @@ fn path(file: &[u8]) {
     }
 }
 
-fn figures(file: &[u8]) {
-    let b = bounds::bounds(file);
+fn figures(g: Graph)
+    requires { ⌜ AcceptedGraph g ⌝ }
+{
+    let b = bounds::accepted::figures(g);
     line(b"old ", b.old.0);
     line(b"new ", b.new.0);
     line(b"ticks ", b.ticks.0);
 }
 
-// Five lines for an accepted file, else one that says why it is refused. What is printed is not in the contract, since no contract can
+// Five lines for an accepted file, else one that says why it is refused. The file is read and judged once. What is printed is not in the contract, since no contract can
 // speak of what a call of the operating system wrote; the answer is.
 pub fn sheet(file: &[u8]) -> Answer
     ensures { λ r. ⌜ r ≡ readOf (now (file .entry)) .answer ⌝ }
 {
-    let taken = graph::read(file);
+    let taken = reader::read(file);
     let answer = taken.answer;
     match answer {
         Answer::Refused(r) => refusal(r),
         Answer::Accepted => {
-            counts(taken.graph);
-            figures(file);
-            path(file);
+            let g = taken.graph;
+            counts(g);
+            figures(g);
+            path(g);
         }
     }
     answer

@@ -13,7 +13,7 @@ use Rattle.model.proofs.Places.{first-at, first-le, first-below, first-here}
 use Rattle.graph.specs.declared.Graph.{Graph}
 use Rattle.graph.specs.Model.{AcceptedGraph, from}
 use Rattle.graph.proofs.Edges.{edges-ascend}
-use Rattle.starts.specs.Starts.{notBelow, startIn, startOf}
+use Rattle.starts.specs.Starts.{notBelow, startIn, firstEdge}
 
 -- a search that has passed nothing stops there
 pub start-stops : (l : List ℕ) (m u i : ℕ) → i < m → i ≤ startIn l m u → notBelow l u i ≡ true → i ≡ startIn l m u
@@ -35,18 +35,18 @@ pub start-in : (l : List ℕ) (m u : ℕ) → startIn l m u ≤ m
 unfolding startIn
 start-in l m u = first-le (notBelow l u) m
 
-pub start-within : (g : Graph) (u : ℕ) → startOf g u ≤ g .edges
+pub start-within : (g : Graph) (u : ℕ) → firstEdge g u ≤ g .edges
 start-within g u = start-in (g .edge) (g .edges) u
 
-pub start-below : (g : Graph) (u i : ℕ) → i < startOf g u → from g i < u
+pub start-below : (g : Graph) (u i : ℕ) → i < firstEdge g u → from g i < u
 unfolding startIn from
 start-below g u i l = leb-false u (from g i) (first-below (notBelow (g .edge) u) (g .edges) i l)
 
 -- an edge comes from no lower number than the ones before it
-pub start-above : {g : Graph} → AcceptedGraph g → (u i : ℕ) → startOf g u ≤ i → i < g .edges → u ≤ from g i
+pub start-above : {g : Graph} → AcceptedGraph g → (u i : ℕ) → firstEdge g u ≤ i → i < g .edges → u ≤ from g i
 unfolding startIn from
 start-above {g} A u i l h =
-    let s = startOf g u in
+    let s = firstEdge g u in
     let t : u ≤ from g s = leb-true u (from g s) (first-here (notBelow (g .edge) u) (g .edges) (omega (arith, l, h))) in
     let e : s + (i - s) ≡ i = omega (arith, l) in
     let a : getD (g .edge) s 0 ≤ getD (g .edge) i 0 = rw e at (edges-ascend A s (i - s) (rw e h)) in

@@ -3,7 +3,7 @@
 ghost use mathlib.Core.Path.{_≡_};
 ghost use Prim.Native.Nat.{_/_, _%_, _≤_};
 ghost use Rattle.model.specs.Places.{table};
-ghost use Rattle.starts.specs.Starts.{startIn, startOf};
+ghost use Rattle.starts.specs.Starts.{startIn, firstEdge};
 use graph::Graph;
 
 // The vertex that an edge comes from, and the one that it goes to: an edge is from * 256 + to.
@@ -37,7 +37,7 @@ fn start(edge: &[u16; 1024], edges: usize, u: usize, i: usize) -> usize
 // The starts of all vertices, and that of 128, where the edges of 127 end.
 pub fn starts(g: Graph) -> [u16; 129]
     requires { ⌜ g .edges ≤ 1024 ⌝ }
-    ensures { λ r. ⌜ r ≡ table (startOf g) 129 ⌝ }
+    ensures { λ r. ⌜ r ≡ table (firstEdge g) 129 ⌝ }
 {
     let edges = g.edges;
     let mut list = [0u16; 129];

@@ -6,7 +6,7 @@ use mathlib.Core.Bool.{Bool, true, false, not, _&&_}
 use Prim.Native.Nat.{ℕ, zero, suc, _+_, _-_, _≤_, _<_}
 use native.Mathlib.Omega.{arith}
 use lib.Dec.{eqb, ltb}
-use lib.ListN.{getD, List·getD-eq-default}
+use lib.ListN.{getD, length, List·getD-eq-default}
 use borrow.Author.Tests.{lt-ltb, ne-eqb}
 use Rattle.model.specs.Places.{pick, table}
 use Rattle.model.specs.Graph.{Graph}
@@ -18,9 +18,9 @@ use Rattle.vset.specs.Members.{Members}
 use Rattle.vset.proofs.Gather.{members-ext}
 use Rattle.vset.proofs.Same.{set-of, set-in}
 use Rattle.tick.specs.declared.Run.{Run}
-use Rattle.tick.specs.Run.{leftOf, stateOf, recordOf, after}
-use Rattle.tick.specs.Remains.{lowered}
-use Rattle.tick.proofs.Turns.{table-padded}
+use Rattle.tick.specs.Run.{leftOf, stateOf, recordOf}
+use Rattle.remains.specs.Remains.{lowered, after}
+use Rattle.places.proofs.Turns.{as-padded}
 
 -- of those that ran, who has not run out of ticks has some left
 pub still-left : (b : Bool) (x : ℕ) → b && not (b && eqb x 0) ≡ b && ltb 0 x
@@ -35,7 +35,7 @@ pub moved-on : (r : Run) (on : ℕ → Bool) (d : ℕ) (next : List ℕ) (over :
 unfolding recordOf after stateOf leftOf lowered
 moved-on r on d next over ran few past e is-over m =
     ap₂ {C = Run} (λ (x : List ℕ) (y : Vset). record { n = r .n; instant = r .instant + d; left = x; ran = y })
-    (e ∙ table-padded (lowered (r .left) on d) 128 (r .n) few (λ v l. omega (arith, past v l)))
+    (as-padded (after on d (stateOf r) .rest) 128 (r .n) next few (ap (λ (l : List ℕ). length l) e ∙ table-length (lowered (r .left) on d) 128) (λ v h. at v) (λ v h k. omega (arith, at v, past v h)))
     (set-of ran (after on d (stateOf r) .ran) (members-ext ran (λ v. on v && not (over v)) (after on d (stateOf r) .ran) m
     (λ v. ap (λ (b : Bool). on v && not b) (is-over v) ∙ still-left (on v) (getD next v 0) ∙ ap (λ (x : ℕ). on v && ltb 0 x) (at v))))
   where

@@ -7,7 +7,7 @@ use native.Mathlib.Omega.{arith}
 use lib.Dec.{eqb, ltb, leb}
 use lib.ListN.{getD, length, List·getD-eq-default}
 use borrow.Author.Tests.{lt-ltb, le-ltb, le-leb, leb-true, eqb-true, eq-eqb}
-use Rattle.model.specs.Places.{every, any, sum}
+use Rattle.model.specs.Places.{count, every, any, sum}
 use Rattle.model.specs.ListSchedule.{ready}
 use Rattle.model.proofs.Bools.{cases, clash, le-or-lt, not-true, true-not, not-is-true, both, left-of, right-of, or-left, or-right, or-cases, imp, imp-intro, same-test}
 use Rattle.model.proofs.Places.{every-at, every-intro, any-none, any-false}
@@ -16,13 +16,11 @@ use Rattle.graph.specs.declared.Graph.{Graph}
 use Rattle.graph.specs.Model.{asModel, AcceptedGraph}
 use Rattle.vset.specs.Members.{isIn}
 use Rattle.tick.specs.declared.Run.{Run}
-use Rattle.tick.specs.Run.{MOST, leftOf}
-use Rattle.tick.specs.Ready.{someLeft, isBehind}
-use Rattle.tick.specs.Remains.{noMore}
-use Rattle.tick.specs.Choice.{fairOf}
+use Rattle.tick.specs.Run.{MOST, leftOf, stateOf}
+use Rattle.ready.specs.Ready.{someLeft, isBehind}
+use Rattle.remains.specs.Remains.{noMore}
 use Rattle.tick.specs.Suits.{suits, Suits}
-use Rattle.tick.proofs.ByKind.{fair-sound, fair-complete}
-use Rattle.tick.proofs.Standing.{ready-is}
+use Rattle.ready.proofs.Standing.{ready-is}
 
 module _ (g : Graph) (r : Run) where
   abbrev within : Bool
@@ -34,6 +32,12 @@ module _ (g : Graph) (r : Run) where
   abbrev marked : Bool
   marked = every (λ v. not (isIn (r .ran) v) || ready (asModel g) (leftOf r) v) (g .n)
 
+  abbrev marked-of : ℕ → ℕ → Bool
+  marked-of k v = isIn (r .ran) v && eqb (getD (g .kind) v 0) k
+
+  abbrev few : Bool
+  few = every (λ k. leb (count (marked-of k) (g .n)) (getD (g .cores) k 0)) (g .kinds)
+
   abbrev unused : Bool
   unused = every (λ v. ltb v (g .n) || (eqb (leftOf r v) 0 && not (isIn (r .ran) v))) 128
 
@@ -43,32 +47,32 @@ module _ (g : Graph) (r : Run) where
     pub no-more : within ≡ true
     pub in-time : timely ≡ true
     pub ready-marks : marked ≡ true
-    pub fair : fairOf g (isIn (r .ran)) ≡ true
+    pub fair : few ≡ true
     pub past : unused ≡ true
 
   pub passed : suits g r ≡ true → Passed
   unfolding suits
   passed t =
-      let a = right-of (eqb (r .n) (g .n)) (within && (timely && (marked && (fairOf g (isIn (r .ran)) && unused)))) t in
-      let b = right-of within (timely && (marked && (fairOf g (isIn (r .ran)) && unused))) a in
-      let c = right-of timely (marked && (fairOf g (isIn (r .ran)) && unused)) b in
-      let d = right-of marked (fairOf g (isIn (r .ran)) && unused) c in
+      let a = right-of (eqb (r .n) (g .n)) (within && (timely && (marked && (few && unused)))) t in
+      let b = right-of within (timely && (marked && (few && unused))) a in
+      let c = right-of timely (marked && (few && unused)) b in
+      let d = right-of marked (few && unused) c in
       record {
-        agrees = left-of (eqb (r .n) (g .n)) (within && (timely && (marked && (fairOf g (isIn (r .ran)) && unused)))) t;
-        no-more = left-of within (timely && (marked && (fairOf g (isIn (r .ran)) && unused))) a;
-        in-time = left-of timely (marked && (fairOf g (isIn (r .ran)) && unused)) b;
-        ready-marks = left-of marked (fairOf g (isIn (r .ran)) && unused) c;
-        fair = left-of (fairOf g (isIn (r .ran))) unused d;
-        past = right-of (fairOf g (isIn (r .ran))) unused d;
+        agrees = left-of (eqb (r .n) (g .n)) (within && (timely && (marked && (few && unused)))) t;
+        no-more = left-of within (timely && (marked && (few && unused))) a;
+        in-time = left-of timely (marked && (few && unused)) b;
+        ready-marks = left-of marked (few && unused) c;
+        fair = left-of few unused d;
+        past = right-of few unused d;
       }
 
   pub all-passed : Passed → suits g r ≡ true
   unfolding suits
   all-passed p =
-      both (eqb (r .n) (g .n)) (within && (timely && (marked && (fairOf g (isIn (r .ran)) && unused)))) (p .agrees)
-      (both within (timely && (marked && (fairOf g (isIn (r .ran)) && unused))) (p .no-more)
-      (both timely (marked && (fairOf g (isIn (r .ran)) && unused)) (p .in-time)
-      (both marked (fairOf g (isIn (r .ran)) && unused) (p .ready-marks) (both (fairOf g (isIn (r .ran))) unused (p .fair) (p .past)))))
+      both (eqb (r .n) (g .n)) (within && (timely && (marked && (few && unused)))) (p .agrees)
+      (both within (timely && (marked && (few && unused))) (p .no-more)
+      (both timely (marked && (few && unused)) (p .in-time)
+      (both marked (few && unused) (p .ready-marks) (both few unused (p .fair) (p .past)))))
 
   -- places from N on
   pub zero-from : Passed → (v : ℕ) → g .n ≤ v → v < 128 → (leftOf r v ≡ 0) × (isIn (r .ran) v ≡ false)
@@ -90,7 +94,7 @@ module _ (g : Graph) (r : Run) where
   module _ (A : AcceptedGraph g) where
     -- THEOREM. The test tells the sentence.
     pub suits-sound : suits g r ≡ true → Suits g r
-    unfolding asModel
+    unfolding asModel stateOf
     suits-sound t =
         let p = passed t in
         record {
@@ -99,20 +103,21 @@ module _ (g : Graph) (r : Run) where
           in-time = leb-true (r .instant + sum (leftOf r) (g .n)) MOST (p .in-time);
           marked-ready = λ v l m. ready-tells (A .well-formed) (leftOf r) (A .acyclic) .sound v l
               (imp (isIn (r .ran) v) (ready (asModel g) (leftOf r) v) (every-at (λ v. not (isIn (r .ran) v) || ready (asModel g) (leftOf r) v) (g .n) (p .ready-marks) v l) m);
-          few-marked = fair-sound g r (p .fair);
+          few-marked = λ k l. leb-true (count (marked-of k) (g .n)) (getD (g .cores) k 0) (every-at (λ k. leb (count (marked-of k) (g .n)) (getD (g .cores) k 0)) (g .kinds) (p .fair) k l);
           zero-past = λ v l h. zero-from p v l h .0;
           unmarked-past = λ v l h. zero-from p v l h .1;
         }
 
+    -- THEOREM. And it tells all of it.
     pub suits-complete : Suits g r → suits g r ≡ true
-    unfolding asModel
+    unfolding asModel stateOf
     suits-complete s = all-passed (record {
       agrees = eq-eqb (r .n) (g .n) (s .agrees);
       no-more = every-intro (λ v. leb (leftOf r v) (getD (g .wcet) v 0)) (g .n) (λ v l. le-leb (leftOf r v) (getD (g .wcet) v 0) (s .no-more v l));
       in-time = le-leb (r .instant + sum (leftOf r) (g .n)) MOST (s .in-time);
       ready-marks = every-intro (λ v. not (isIn (r .ran) v) || ready (asModel g) (leftOf r) v) (g .n)
           (λ v l. imp-intro (isIn (r .ran) v) (ready (asModel g) (leftOf r) v) (λ m. ready-tells (A .well-formed) (leftOf r) (A .acyclic) .complete v l (s .marked-ready v l m)));
-      fair = fair-complete g r (s .few-marked);
+      fair = every-intro (λ k. leb (count (marked-of k) (g .n)) (getD (g .cores) k 0)) (g .kinds) (λ k l. le-leb (count (marked-of k) (g .n)) (getD (g .cores) k 0) (s .few-marked k l));
       past = every-intro (λ v. ltb v (g .n) || (eqb (leftOf r v) 0 && not (isIn (r .ran) v))) 128 (λ v h.
           ⊎-elim
           (λ (l : g .n ≤ v). or-right (ltb v (g .n)) (eqb (leftOf r v) 0 && not (isIn (r .ran) v))
@@ -120,6 +125,13 @@ module _ (g : Graph) (r : Run) where
           (λ (l : v < g .n). or-left (ltb v (g .n)) (eqb (leftOf r v) 0 && not (isIn (r .ran) v)) (lt-ltb v (g .n) l))
           (le-or-lt (g .n) v));
     })
+
+    -- THEOREM. So it fails just where the sentence does not hold.
+    pub suits-not : (Suits g r → ⊥) → suits g r ≡ false
+    suits-not h = not-true (suits g r) (λ t. h (suits-sound t))
+
+    pub not-suits : suits g r ≡ false → Suits g r → ⊥
+    not-suits f s = clash (suits-complete s) f
 
     -- ---- the tests of the code
 
@@ -137,16 +149,16 @@ module _ (g : Graph) (r : Run) where
       new v = isIn (r .ran) v && not (able v)
 
       abbrev tested : Bool
-      tested = eqb (r .n) (g .n) && (every (noMore (r .left) (g .wcet)) 128 && (timely && (not (any new 128) && fairOf g (isIn (r .ran)))))
+      tested = eqb (r .n) (g .n) && (every (noMore (r .left) (g .wcet)) 128 && (timely && (not (any new 128) && few)))
 
       to : suits g r ≡ true → tested ≡ true
       unfolding noMore leftOf
       to t =
           let p = passed t in
-          both (eqb (r .n) (g .n)) (every (noMore (r .left) (g .wcet)) 128 && (timely && (not (any new 128) && fairOf g (isIn (r .ran))))) (p .agrees)
-          (both (every (noMore (r .left) (g .wcet)) 128) (timely && (not (any new 128) && fairOf g (isIn (r .ran)))) (every-intro (noMore (r .left) (g .wcet)) 128 (low p))
-          (both timely (not (any new 128) && fairOf g (isIn (r .ran))) (p .in-time)
-          (both (not (any new 128)) (fairOf g (isIn (r .ran))) (true-not (any new 128) (any-none new 128 (mark p))) (p .fair))))
+          both (eqb (r .n) (g .n)) (every (noMore (r .left) (g .wcet)) 128 && (timely && (not (any new 128) && few))) (p .agrees)
+          (both (every (noMore (r .left) (g .wcet)) 128) (timely && (not (any new 128) && few)) (every-intro (noMore (r .left) (g .wcet)) 128 (low p))
+          (both timely (not (any new 128) && few) (p .in-time)
+          (both (not (any new 128)) few (true-not (any new 128) (any-none new 128 (mark p))) (p .fair))))
         where
           low : Passed → (v : ℕ) → v < 128 → leb (getD (r .left) v 0) (getD (g .wcet) v 0) ≡ true
           low p v h =
@@ -168,18 +180,18 @@ module _ (g : Graph) (r : Run) where
       from : tested ≡ true → suits g r ≡ true
       unfolding noMore leftOf
       from t =
-          let a = right-of (eqb (r .n) (g .n)) (every (noMore (r .left) (g .wcet)) 128 && (timely && (not (any new 128) && fairOf g (isIn (r .ran))))) t in
-          let b = right-of (every (noMore (r .left) (g .wcet)) 128) (timely && (not (any new 128) && fairOf g (isIn (r .ran)))) a in
-          let d = right-of timely (not (any new 128) && fairOf g (isIn (r .ran))) b in
-          let e = left-of (every (noMore (r .left) (g .wcet)) 128) (timely && (not (any new 128) && fairOf g (isIn (r .ran)))) a in
-          let f = not-is-true (any new 128) (left-of (not (any new 128)) (fairOf g (isIn (r .ran))) d) in
+          let a = right-of (eqb (r .n) (g .n)) (every (noMore (r .left) (g .wcet)) 128 && (timely && (not (any new 128) && few))) t in
+          let b = right-of (every (noMore (r .left) (g .wcet)) 128) (timely && (not (any new 128) && few)) a in
+          let d = right-of timely (not (any new 128) && few) b in
+          let e = left-of (every (noMore (r .left) (g .wcet)) 128) (timely && (not (any new 128) && few)) a in
+          let f = not-is-true (any new 128) (left-of (not (any new 128)) few d) in
           all-passed (record {
-            agrees = left-of (eqb (r .n) (g .n)) (every (noMore (r .left) (g .wcet)) 128 && (timely && (not (any new 128) && fairOf g (isIn (r .ran))))) t;
+            agrees = left-of (eqb (r .n) (g .n)) (every (noMore (r .left) (g .wcet)) 128 && (timely && (not (any new 128) && few))) t;
             no-more = every-intro (λ v. leb (leftOf r v) (getD (g .wcet) v 0)) (g .n) (λ v l. every-at (noMore (r .left) (g .wcet)) 128 e v (omega (arith, A .few-vertices)));
-            in-time = left-of timely (not (any new 128) && fairOf g (isIn (r .ran))) b;
+            in-time = left-of timely (not (any new 128) && few) b;
             ready-marks = every-intro (λ v. not (isIn (r .ran) v) || ready (asModel g) (leftOf r) v) (g .n)
                 (λ v l. imp-intro (isIn (r .ran) v) (ready (asModel g) (leftOf r) v) (λ m. sym (able-below v l) ∙ must f v (omega (arith, A .few-vertices)) m));
-            fair = right-of (not (any new 128)) (fairOf g (isIn (r .ran))) d;
+            fair = right-of (not (any new 128)) few d;
             past = every-intro (λ v. ltb v (g .n) || (eqb (leftOf r v) 0 && not (isIn (r .ran) v))) 128 (λ v h. out e f v h);
           })
         where

@@ -17,10 +17,11 @@ use Rattle.graph.specs.Model.{asModel, AcceptedGraph}
 use Rattle.vset.specs.Members.{isIn}
 use Rattle.tick.specs.declared.Run.{Run}
 use Rattle.tick.specs.Run.{leftOf, stateOf, over}
-use Rattle.tick.specs.Ready.{someLeft, isBehind}
-use Rattle.tick.specs.Choice.{OfKinds, chosenBy}
-use Rattle.tick.proofs.ByKind.{by-words}
-use Rattle.tick.proofs.Standing.{ready-is, finished-is, all-finished, chosen-is}
+use Rattle.ready.specs.Ready.{someLeft, isBehind}
+use Rattle.choice.specs.Choice.{OfKinds, chosenBy}
+use Rattle.choice.proofs.ByKind.{by-words}
+use Rattle.ready.proofs.Standing.{ready-is, finished-is, all-finished}
+use Rattle.choice.proofs.Listed.{chosen-is}
 
 module _ (g : Graph) (A : AcceptedGraph g) (r : Run) (past : (v : ℕ) → g .n ≤ v → leftOf r v ≡ 0) (busy : ℕ → Bool) (is-busy : (v : ℕ) → busy v ≡ someLeft (r .left) v) where
   all-busy : busy ≡ someLeft (r .left)

@@ -1,15 +1,15 @@
--- When a run record suits a graph (document 01, "Schedules"): N agrees, no remainder exceeds its WCET, instant plus all remainders is
--- at most 128,000,000, and the vertices marked as running are ready (taking each remainder as its time) and no more than the cores
--- of each kind; places from N on are zero and unmarked.
+-- When a run record suits a graph (document 01, "Schedules"): "A record suits a graph when N agrees, no remainder exceeds its WCET,
+-- instant plus all remainders is at most 128,000,000, and the vertices marked as running are ready (taking each remainder as its time)
+-- and no more than the cores of each type." And: "places from N on stay zero and unmarked; a record where they aren't gets 16."
 --
---   suits g r      as a test
---   Suits g r      as a statement; proofs/Suiting: the test tells it
+--   Suits g r      the sentence
+--   suits g r      the same as a test, in the same order; it computes     (proofs/Suiting: it tells Suits)
 use mathlib.Core.Path.{_≡_}
 use mathlib.Core.Bool.{Bool, true, false, not, _&&_, _||_}
 use Prim.Native.Nat.{ℕ, _+_, _≤_, _<_}
 use lib.Dec.{eqb, ltb, leb}
 use lib.ListN.{getD}
-use Rattle.model.specs.Places.{every, sum}
+use Rattle.model.specs.Places.{count, every, sum}
 use Rattle.model.specs.Schedule.{Ready}
 use Rattle.model.specs.ListSchedule.{ready, Fair}
 use Rattle.graph.specs.declared.Graph.{Graph}
@@ -17,7 +17,21 @@ use Rattle.graph.specs.Model.{asModel}
 use Rattle.vset.specs.Members.{isIn}
 use Rattle.tick.specs.declared.Run.{Run}
 use Rattle.tick.specs.Run.{MOST, leftOf, stateOf}
-use Rattle.tick.specs.Choice.{fairOf}
+
+pub record Suits (g : Graph) (r : Run) : Type 0 where
+  -- N agrees
+  pub agrees : r .n ≡ g .n
+  -- no remainder exceeds its WCET
+  pub no-more : (v : ℕ) → v < g .n → leftOf r v ≤ getD (g .wcet) v 0
+  -- instant plus all remainders is at most 128,000,000
+  pub in-time : r .instant + sum (leftOf r) (g .n) ≤ MOST
+  -- the vertices marked as running are ready, taking each remainder as its time
+  pub marked-ready : (v : ℕ) → v < g .n → isIn (r .ran) v ≡ true → Ready (asModel g) (leftOf r) v
+  -- and no more than the cores of each kind
+  pub few-marked : Fair (asModel g) (stateOf r)
+  -- places from N on are zero and unmarked
+  pub zero-past : (v : ℕ) → g .n ≤ v → v < 128 → leftOf r v ≡ 0
+  pub unmarked-past : (v : ℕ) → g .n ≤ v → v < 128 → isIn (r .ran) v ≡ false
 
 unfoldable pub suits : Graph → Run → Bool
 suits g r =
@@ -25,14 +39,5 @@ suits g r =
     && (every (λ v. leb (leftOf r v) (getD (g .wcet) v 0)) (g .n)
     && (leb (r .instant + sum (leftOf r) (g .n)) MOST
     && (every (λ v. not (isIn (r .ran) v) || ready (asModel g) (leftOf r) v) (g .n)
-    && (fairOf g (isIn (r .ran))
+    && (every (λ k. leb (count (λ v. isIn (r .ran) v && eqb (getD (g .kind) v 0) k) (g .n)) (getD (g .cores) k 0)) (g .kinds)
     && every (λ v. ltb v (g .n) || (eqb (leftOf r v) 0 && not (isIn (r .ran) v))) 128))))
-
-pub record Suits (g : Graph) (r : Run) : Type 0 where
-  pub agrees : r .n ≡ g .n
-  pub no-more : (v : ℕ) → v < g .n → leftOf r v ≤ getD (g .wcet) v 0
-  pub in-time : r .instant + sum (leftOf r) (g .n) ≤ MOST
-  pub marked-ready : (v : ℕ) → v < g .n → isIn (r .ran) v ≡ true → Ready (asModel g) (leftOf r) v
-  pub few-marked : Fair (asModel g) (stateOf r)
-  pub zero-past : (v : ℕ) → g .n ≤ v → v < 128 → leftOf r v ≡ 0
-  pub unmarked-past : (v : ℕ) → g .n ≤ v → v < 128 → isIn (r .ran) v ≡ false

@@ -5,16 +5,15 @@ ghost use mathlib.Core.Bool.{true};
 ghost use Prim.Native.Nat.{ℕ, _+_, _≤_, _<_};
 ghost use Rattle.graph.specs.Model.{AcceptedGraph};
 ghost use Rattle.vset.specs.Members.{isIn};
-ghost use Rattle.tick.specs.Run.{leftOf, stateOf, after, recordOf, tickedOf};
+ghost use Rattle.remains.specs.Remains.{after};
+ghost use Rattle.tick.specs.Run.{leftOf, stateOf, recordOf, tickedOf};
 ghost use Rattle.tick.specs.Suits.{suits};
 use graph::Graph;
 use graph::Refusal;
 use vset::Vset;
 
-pub mod choice;
-pub mod ready;
-pub mod remains;
-pub mod waiting;
+// Document 01's limit for an instant and all that remains from it on.
+const MOST: u64 = 128000000;
 
 // N, the instant, the ticks remaining of each vertex, and which vertices ran in the last tick and are unfinished. Places from N on
 // are zero and unmarked.
@@ -89,14 +88,17 @@ pub fn suits(g: Graph, run: Run) -> bool
     ensures { λ r. ⌜ r ≡ suits g run ⌝ }
 {
     let left = run.left;
-    let wcet = g.wcet;
     let ran = run.ran;
+    let wcet = g.wcet;
+    let kind = g.kind;
+    let cores = g.cores;
     let busy = ready::busy(left);
     let able = vset::minus(busy, ready::behind(g, busy));
     let same = run.n == g.n;
     let within = remains::within(left, wcet);
-    let timely = remains::in_time(run.instant, remains::total(left, g.n));
+    let timely = remains::in_time(run.instant, remains::total(left, g.n), MOST);
     let marked = vset::is_empty(vset::minus(ran, able));
-    let fair = choice::fair(g, ran);
+    let words = choice::of_kinds(&kind, g.n);
+    let fair = choice::fair(g.kinds, &cores, &words, ran);
     same & (within & (timely & (marked & fair)))
 }

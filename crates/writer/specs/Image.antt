@@ -1,3 +1,5 @@
+-- For our own layers alone: no contract for callers and no claim cites this file.
+--
 -- The file as the code makes it, record by record in a table of its own. Only private contracts cite this: nothing here has to be believed.
 --
 --   recordAt g a b k     record k of a file with a types and b vertices

@@ -1,3 +1,5 @@
+-- For our own layers alone: no contract for callers and no claim cites this file.
+--
 -- The two round trips between a file and its lists, as claims over what the reader gives (readOf) and the writer answers (wroteOf, roomAfter).
 --
 --   WrittenBack s out     the lists of the reader's value for s, written to a room that held out: the bytes s stand there again

@@ -6,6 +6,7 @@
 --   joined f n                       the lists f 0, .. , f (n - 1), one after the other
 --   fileOf g                         all type records, then all vertex records, then all edge records
 --   wroteOf g room                   the writer's answer where so many bytes are lent
+--   ofWrote w                        the answer in document 01's numbers: its value is the file's length
 --   roomAfter g out                  what the lent room holds at the end, where it held out
 --
 -- A number is its record's place among its kind. Where the lists are too long for that to be a byte, they are refused.
@@ -15,6 +16,7 @@ use lib.ListN.{length, getD, drop}
 use lib.Dec.{eqb, ltb}
 use Rattle.model.specs.Places.{pick}
 use Rattle.graph.specs.Judge.{judgeFrom}
+use Rattle.graph.specs.Said.{Said, saidNo}
 use Rattle.graph.specs.declared.Answer.{Answer}
 use Rattle.graph.specs.declared.Answer.the-variants as answers
 use Rattle.writer.specs.Lists.{Lists}
@@ -62,6 +64,10 @@ wroteOf g room =
     pick (eqb (length (g .kinds)) (length (g .wcets)))
     (wroteBy (judgeFrom 4 (fileOf g)) (length (fileOf g)) room)
     (Refused (record { number = 13; place = 0 }))
+
+abbrev pub ofWrote : Wrote → Said
+ofWrote (Bytes size) = record { number = 0; place = 0; value = size }
+ofWrote (Refused r) = saidNo r
 
 -- on success the file, then what stood past it; beside a refusal what stood there
 abbrev pub roomBy : Wrote → List ℕ → List ℕ → List ℕ

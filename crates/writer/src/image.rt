@@ -7,7 +7,7 @@ ghost use Rattle.writer.specs.Image.{recordAt, imaged};
 use super::records::record_at;
 
 // The first `a` types, `b` vertices and `e` edges, record by record. There is room for one record more of each kind than is allowed.
-pub fn image(
+pub(crate) fn image(
     cores: &[u8],
     kinds: &[u8],
     wcets: &[u32],

@@ -39,7 +39,7 @@ fn judged(file: &[u8], out: &mut [u8]) -> Wrote
     requires { ⌜ length (now file) ≤ 9320 ⌝ }
     ensures { λ r. ⌜ (r ≡ wroteBy (judgeFrom 4 (now (file .entry))) (length (now (file .entry))) (length (now (out .entry)))) × (now (out .exit) ≡ roomBy r (now (file .entry)) (now (out .entry))) ⌝ }
 {
-    let answer = graph::judge_from(file, 4);
+    let answer = reader::judge_from(file, 4);
     match answer {
         Answer::Accepted => copied(file, out),
         Answer::Refused(r) => Wrote::Refused(r),

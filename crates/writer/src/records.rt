@@ -33,7 +33,7 @@ fn edge_record(edge: u16) -> [u8; 8]
 }
 
 // Record `k` of the file with the first `a` types and `b` vertices: types stand first, then vertices, then edges.
-pub fn record_at(
+pub(crate) fn record_at(
     cores: &[u8],
     kinds: &[u8],
     wcets: &[u32],

@@ -4,7 +4,7 @@ use borrow.Author.Needs.{needs}
 use Rattle.graph.specs.Model.{asModel}
 use Rattle.paths.specs.Ahead.{weigh, Weighed, Summed}
 use Rattle.paths.specs.Trace.{Traceable}
-use Rattle.bounds.specs.declared.weights.Measure.the-variants.{Scaled}
+use Rattle.weights.specs.declared.Measure.the-variants.{Scaled}
 use Rattle.bounds.specs.Answers.{narrow}
 use Rattle.bounds.proofs.Weighing.{small-stages, weighed-by, scaled-most}
 use Rattle.bounds.proofs.Entries.{path-found}

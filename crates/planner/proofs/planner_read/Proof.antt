@@ -1,12 +1,12 @@
 use mathlib.Core.Path.{_∙_, ap}
-use Rattle.planner.specs.Coded.{codedGraph}
+use Rattle.codes.specs.Coded.{codedGraph}
 use borrow.Author.Needs.{needs}
 use Rattle.planner.proofs.planner_read.Statement.{statement}
 use Rattle.planner.proofs.planner_read.Tie as tie
 use Rattle.planner.proofs.planner_read.Reads as reads
 use Rattle.planner.proofs.planner_read.Lts as lts
-use Rattle.graph.proofs.read.Reads as read-reads
-use Rattle.planner.proofs.coded_graph.Reads as coded-graph-reads
+use Rattle.reader.proofs.read.Reads as read-reads
+use Rattle.codes.proofs.coded_graph.Reads as coded-graph-reads
 
 read-requires : tie.Need-read-requires
 read-requires c κs = search needs

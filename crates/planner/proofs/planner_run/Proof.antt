@@ -1,11 +1,11 @@
 use mathlib.Core.Path.{_∙_, ap}
-use Rattle.planner.specs.CodedRun.{codedPlay}
+use Rattle.codes.specs.CodedRun.{codedPlay}
 use borrow.Author.Needs.{needs}
 use Rattle.planner.proofs.planner_run.Statement.{statement}
 use Rattle.planner.proofs.planner_run.Tie as tie
 use Rattle.planner.proofs.planner_run.Reads as reads
 use Rattle.planner.proofs.planner_run.Lts as lts
-use Rattle.planner.proofs.coded_play.Reads as coded-play-reads
+use Rattle.codes.proofs.coded_play.Reads as coded-play-reads
 use Rattle.schedule.proofs.run.Reads as run-reads
 
 run-requires : tie.Need-run-requires

@@ -1,11 +1,11 @@
 use mathlib.Core.Path.{_∙_, ap}
-use Rattle.planner.specs.CodedRun.{codedStart}
+use Rattle.codes.specs.CodedRun.{codedStart}
 use borrow.Author.Needs.{needs}
 use Rattle.planner.proofs.planner_start.Statement.{statement}
 use Rattle.planner.proofs.planner_start.Tie as tie
 use Rattle.planner.proofs.planner_start.Reads as reads
 use Rattle.planner.proofs.planner_start.Lts as lts
-use Rattle.planner.proofs.coded_start.Reads as coded-start-reads
+use Rattle.codes.proofs.coded_start.Reads as coded-start-reads
 use Rattle.schedule.proofs.start.Reads as start-reads
 
 start-requires : tie.Need-start-requires

@@ -1,11 +1,11 @@
 use mathlib.Core.Path.{_∙_, ap}
-use Rattle.planner.specs.CodedRun.{codedTick}
+use Rattle.codes.specs.CodedRun.{codedTick}
 use borrow.Author.Needs.{needs}
 use Rattle.planner.proofs.planner_tick.Statement.{statement}
 use Rattle.planner.proofs.planner_tick.Tie as tie
 use Rattle.planner.proofs.planner_tick.Reads as reads
 use Rattle.planner.proofs.planner_tick.Lts as lts
-use Rattle.planner.proofs.coded_tick.Reads as coded-tick-reads
+use Rattle.codes.proofs.coded_tick.Reads as coded-tick-reads
 use Rattle.schedule.proofs.tick.Reads as tick-reads
 
 tick-requires : tie.Need-tick-requires

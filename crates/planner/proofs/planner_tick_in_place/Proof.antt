@@ -42,11 +42,11 @@ use Rattle.tick.specs.declared.Run.{Run}
 use Rattle.tick.proofs.Run as R
 use Rattle.tick.proofs.Run.Laws as R′
 use Rattle.schedule.specs.Tick.{tickOf}
-use Rattle.planner.specs.CodedRun.{codedStep}
-use Rattle.planner.specs.declared.PlannerMoved.{PlannerMoved}
+use Rattle.planner.specs.Stepped.{codedStep}
+use Rattle.codes.specs.declared.PlannerMoved.{PlannerMoved}
 use Rattle.planner.specs.declared.Stepped.{Stepped}
-use Rattle.planner.proofs.PlannerMoved as N
-use Rattle.planner.proofs.PlannerMoved.Laws as N′
+use Rattle.codes.proofs.PlannerMoved as N
+use Rattle.codes.proofs.PlannerMoved.Laws as N′
 use Rattle.planner.proofs.Stepped as S
 use Rattle.planner.proofs.Stepped.Laws as S′
 use Rattle.planner.proofs.step as step

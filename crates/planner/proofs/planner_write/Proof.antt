@@ -1,11 +1,11 @@
 use mathlib.Core.Path.{_∙_, ap}
-use Rattle.planner.specs.Coded.{codedWrote}
+use Rattle.codes.specs.Coded.{codedWrote}
 use borrow.Author.Needs.{needs}
 use Rattle.planner.proofs.planner_write.Statement.{statement}
 use Rattle.planner.proofs.planner_write.Tie as tie
 use Rattle.planner.proofs.planner_write.Reads as reads
 use Rattle.planner.proofs.planner_write.Lts as lts
-use Rattle.planner.proofs.coded_wrote.Reads as coded-wrote-reads
+use Rattle.codes.proofs.coded_wrote.Reads as coded-wrote-reads
 use Rattle.writer.proofs.write.Reads as write-reads
 
 write-requires : tie.Need-write-requires

@@ -4,7 +4,7 @@ use Rattle.planner.proofs.step.Statement.{statement}
 use Rattle.planner.proofs.step.Tie as tie
 use Rattle.planner.proofs.step.Reads as reads
 use Rattle.planner.proofs.step.Lts as lts
-use Rattle.planner.proofs.coded_report.Reads as coded-report-reads
+use Rattle.codes.proofs.coded_report.Reads as coded-report-reads
 use Rattle.schedule.proofs.tick.Reads as tick-reads
 
 tick-requires : tie.Need-tick-requires

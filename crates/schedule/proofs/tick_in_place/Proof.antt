@@ -1,4 +1,4 @@
--- `schedule::tick_in_place` meets its contract: a walk of its MIR, by hand. The caller's borrow is opened, the record is copied out and passed to `tick` with the slice, the record that `tick` hands back is stored, and the borrow is closed at it. All that the proof knows of `tick` is that it meets its contract.
+-- `schedule::tick_in_place` meets its contract: a walk of its MIR, by hand. The caller's borrow is opened, the record is copied out and passed to `tick` with the slice, the record that `tick` hands back is taken out and stored, and the borrow is closed at it. All that the proof knows of `tick` is that it meets its contract.
 use mathlib.Core.Path.{_≡_, refl, ap, subst}
 use Prim.Native.Nat.{ℕ}
 use mathlib.Core.List.{[], _∷_, List}
@@ -117,31 +117,32 @@ module _ {M : Type 1} (𝓤 : URA M) (H : Heap 𝓤) (A : Atoms 𝓤) (W : Given
     walk : Is (ShrSlice (named 1) κ′ u8) s (v ∷ []) → ent 𝓤 (onEntry 𝓤 H A here.signature (κ, (κ′, tt)) (q, (q′, tt)) a vals) (WpFn 𝓤 H C Λ code.function (vptr b o ∷ v ∷ []) Post)
     walk p =
         qed W ((‵ (flft κ q) ⊛ ‵ (flft κ′ q′) ⊛ ‵ ftrue) ∷ ‵ (owns (MutRef (named 0) κ R.the-row ∷ ShrSlice (named 1) κ′ u8 ∷ []) a vals) ∷ []) ∵ enter ! C Λ code.function (vptr b o ∷ v ∷ []) _ $
-        alloc1 ! (λ l₀. alloc1 ! (λ l₁. alloc1 ! (λ l₂. alloc1 ! (λ l₃. alloc1 ! (λ l₄. alloc0 ! $ params1 ! $ pass1 ! (init ! 6 refl (tt, tt)) $ pass1 ! (init ! 4 refl (shr-slice-lawful 𝓤 H A W (named 1) κ′ u8 .typed s (v ∷ []) p .0)) $ pass0 ! $
+        alloc1 ! (λ l₀. alloc1 ! (λ l₁. alloc1 ! (λ l₂. alloc1 ! (λ l₃. alloc1 ! (λ l₄. alloc1 ! (λ l₅. alloc0 ! $ params1 ! $ pass1 ! (init ! 8 refl (tt, tt)) $ pass1 ! (init ! 6 refl (shr-slice-lawful 𝓤 H A W (named 1) κ′ u8 .typed s (v ∷ []) p .0)) $ pass0 ! $
         -- the caller's borrow is opened
-        move ! (11 ∷ []) $ fsplit ! $ fsplit3 ! $ drop ! $ move ! (13 ∷ []) $ split ! $ move ! (2 ∷ 3 ∷ 0 ∷ []) $
+        move ! (13 ∷ []) $ fsplit ! $ fsplit3 ! $ drop ! $ move ! (15 ∷ []) $ split ! $ move ! (2 ∷ 3 ∷ 0 ∷ []) $
         opens ! tt R.the-row {h = h} b o (λ vs. spelt ! R.the-row (Is R.the-row) (shows 𝓤 H A R.the-row) (LL.vals R.the-type R′.the-laws) (LL.tells R.the-type R′.the-laws) fullShare h vs b o $
         move ! (1 ∷ []) $ peeks ! R.the-row (Is R.the-row) (shows 𝓤 H A R.the-row) h (mach h ∷ []) (λ g. move ! (1 ∷ 0 ∷ []) $
-        -- [the record's cell; what it owns; the open borrow; obs; auth; the slice's token; the slice's; room for _4; …; room for _3; …; _2; …; _1; …; room for _0; …]
-        assigns ! (of-opd ! (load ! (from ! (hop ! (look ! 13 refl) (stop !))) (look-raw ! 0 refl))) (from ! (stop !)) (init ! 9 refl (LL.lawful R.the-type R′.the-laws 𝓤 H A W .typed h _ g .0)) $
+        -- [the record's cell; what it owns; the open borrow; obs; auth; the slice's token; the slice's; room for _5; …; room for _4; …; room for _3; …; _2; …; _1; …; room for _0; …]
+        assigns ! (of-opd ! (load ! (from ! (hop ! (look ! 15 refl) (stop !))) (look-raw ! 0 refl))) (from ! (stop !)) (init ! 11 refl (LL.lawful R.the-type R′.the-laws 𝓤 H A W .typed h _ g .0)) $
         -- what the slice owns is had twice: one goes to `tick`, beside the record, and one is kept for the exit
         move ! (6 ∷ []) $ fsplit ! $ use1 W (‵ OwnS ⊛ ‵ OwnS) (shr-slice-copy 𝓤 H A W (named 1) κ′ u8 .twice s (v ∷ [])) $ split ! $ move ! (0 ∷ 2 ∷ []) $ fjoin ! $
         owned ! R.the-row (Is R.the-row) (LL.makes R.the-type R′.the-plain 𝓤 H A) h _ g $ fjoin ! $ move ! (7 ∷ 0 ∷ []) $ use2 W (raw (Tick 𝓤 H A at-mem run .pre to)) asked $
-        -- [what `tick` asks; the slice's; the cell; what it owns; the open borrow; obs; auth; room for _4; …; _3; …; _2; …; _1; …; room for _0; …]
-        calls-at ! fm (Tick 𝓤 H A at-mem run) known to (and-then ! (load ! (from ! (stop !)) (look ! 9 refl)) (and-then ! (load ! (from ! (stop !)) (look ! 11 refl)) (no-more !))) (λ u.
+        -- [what `tick` asks; the slice's; the cell; what it owns; the open borrow; obs; auth; room for _5; …; room for _4; …; _3; …; _2; …; _1; …; room for _0; …]
+        calls-at ! fm (Tick 𝓤 H A at-mem run) known to (and-then ! (load ! (from ! (stop !)) (look ! 11 refl)) (and-then ! (load ! (from ! (stop !)) (look ! 13 refl)) (no-more !))) (λ u.
         use1 W (later (some (λ (r : Ticked). ((‵ (flft κ′ q′) ⊛ ‵ ftrue) ⊛ ‵ (S.the-row .own r (u ∷ []))) ⊛ raw (ensured 𝓤 H A tick.ended (tick.clauses 𝓤 H A at-mem run) (κ′, tt) (h, (s, tt)) tt r)))) (id⊢ 𝓤 _) $ await ! tt $ pick ! (λ r.
         split ! $ move ! (1 ∷ []) $ use1 W (raw (fact 𝓤 (r ≡ found))) (said r) $ heard ! (r ≡ found) (λ e. split ! $ move ! (1 ∷ []) $
-        -- [the result's; the slice's token; the slice's; the cell; what it owns; the open borrow; obs; auth; room for _4; …; _3; …; _2; …; _1; …; room for _0; …]
+        -- [the result's; the slice's token; the slice's; the cell; what it owns; the open borrow; obs; auth; room for _5; …; room for _4; …; _3; …; _2; …; _1; …; room for _0; …]
         peeks ! S.the-row (Is S.the-row) (shows 𝓤 H A S.the-row) r (u ∷ []) (λ is. let told = LL.tells S.the-type S′.the-laws r (u ∷ []) is in let is′ : Is S.the-row r (machS r ∷ []) = subst (λ (us : List Val). Is S.the-row r us) told is in
-        land ! (from ! (stop !)) (init ! 8 refl (LL.lawful S.the-type S′.the-laws 𝓤 H A W .typed r _ is .0)) $ rewrite ! 8 (λ (x : Val). ‵ (fat fullShare S′.mir l₄ 0 x)) (ap only told) refl $
-        assigns ! (of-opd ! (load ! (from ! (fld ! refl (stop !))) (look-in ! 8 (sub ! 1 refl (whole !))))) (from ! (hop ! (look ! 14 refl) (stop !))) (store-raw ! 3 refl (LL.lawful R.the-type R′.the-laws 𝓤 H A W .typed (r .run) _ (LL.owed S.the-type S′.the-laws r _ is′ .1 .0) .0)) $
-        assigns ! (of-opd ! (load ! (from ! (fld ! refl (stop !))) (look-in ! 8 (sub ! 0 refl (whole !))))) (from ! (stop !)) (init ! 16 refl (EL.lawful N.the-type N′.the-laws 𝓤 H A W tt .typed (r .report) _ (LL.owed S.the-type S′.the-laws r _ is′ .0) .0)) $
+        land ! (from ! (stop !)) (init ! 10 refl (LL.lawful S.the-type S′.the-laws 𝓤 H A W .typed r _ is .0)) $ rewrite ! 10 (λ (x : Val). ‵ (fat fullShare S′.mir l₄ 0 x)) (ap only told) refl $
+        assigns ! (of-opd ! (load ! (from ! (fld ! refl (stop !))) (look-in ! 10 (sub ! 1 refl (whole !))))) (from ! (stop !)) (init ! 8 refl (LL.lawful R.the-type R′.the-laws 𝓤 H A W .typed (r .run) _ (LL.owed S.the-type S′.the-laws r _ is′ .1 .0) .0)) $
+        assigns ! (of-opd ! (load ! (from ! (stop !)) (look ! 8 refl))) (from ! (hop ! (look ! 16 refl) (stop !))) (store-raw ! 3 refl (LL.lawful R.the-type R′.the-laws 𝓤 H A W .typed (r .run) _ (LL.owed S.the-type S′.the-laws r _ is′ .1 .0) .0)) $
+        assigns ! (of-opd ! (load ! (from ! (fld ! refl (stop !))) (look-in ! 10 (sub ! 0 refl (whole !))))) (from ! (stop !)) (init ! 18 refl (EL.lawful N.the-type N′.the-laws 𝓤 H A W tt .typed (r .report) _ (LL.owed S.the-type S′.the-laws r _ is′ .0) .0)) $
         -- the borrow is closed at the record that `tick` handed back
         move ! (4 ∷ []) $ drop ! $ owned ! R.the-row (Is R.the-row) (LL.makes R.the-type R′.the-plain 𝓤 H A) (r .run) _ (LL.owed S.the-type S′.the-laws r _ is′ .1 .0) $ move ! (4 ∷ 0 ∷ 5 ∷ 6 ∷ 7 ∷ []) $ closes ! tt R.the-row (r .run) (mach (r .run) ∷ []) b o $
-        -- [obs; the borrow; its token; the result's; the slice's token; the slice's; _4; …; _3; …; _2; …; _1; …; _0; …]
-        returns ! (look ! 14 refl) $ forget ! 6 refl $ forget ! 8 refl $ forget ! 10 refl $ forget ! 12 refl $ forget ! 14 refl $
-        move ! (14 ∷ 15 ∷ []) $ free1 ! $ move ! (12 ∷ 13 ∷ []) $ free1 ! $ move ! (10 ∷ 11 ∷ []) $ free1 ! $ move ! (8 ∷ 9 ∷ []) $ free1 ! $ move ! (6 ∷ 7 ∷ []) $ free1 ! $ free0 ! $
-        keep ! (0 ∷ 1 ∷ 2 ∷ 4 ∷ 5 ∷ []) $ by ! (exits r e (LL.owed S.the-type S′.the-laws r _ is′ .0)))))))))))))
+        -- [obs; the borrow; its token; the result's; the slice's token; the slice's; _5; …; _4; …; _3; …; _2; …; _1; …; _0; …]
+        returns ! (look ! 16 refl) $ forget ! 6 refl $ forget ! 8 refl $ forget ! 10 refl $ forget ! 12 refl $ forget ! 14 refl $ forget ! 16 refl $
+        move ! (16 ∷ 17 ∷ []) $ free1 ! $ move ! (14 ∷ 15 ∷ []) $ free1 ! $ move ! (12 ∷ 13 ∷ []) $ free1 ! $ move ! (10 ∷ 11 ∷ []) $ free1 ! $ move ! (8 ∷ 9 ∷ []) $ free1 ! $ move ! (6 ∷ 7 ∷ []) $ free1 ! $ free0 ! $
+        keep ! (0 ∷ 1 ∷ 2 ∷ 4 ∷ 5 ∷ []) $ by ! (exits r e (LL.owed S.the-type S′.the-laws r _ is′ .0))))))))))))))
 
 module _ {M : Type 1} (𝓤 : URA M) (H : Heap 𝓤) (A : Atoms 𝓤) (W : Given 𝓤 H A) (at-mem : Memory → SProp 𝓤) (run : Routine → Fun 𝓤) where
   walks : (C : Calls 𝓤 H) (Λ : Loops 𝓤 H) → FmC 𝓤 H (W .laws) C → Triple 𝓤 (C #schedule·tick) (Tick 𝓤 H A at-mem run) → Walks 𝓤 H A here.ended stayed (WpFn 𝓤 H C Λ code.function) (here.clauses 𝓤 H A at-mem run)

@@ -7,11 +7,11 @@ use borrow.Author.Needs.{needs}
 use Rattle.show.proofs.path.Statement.{statement}
 use Rattle.show.proofs.path.Tie as tie
 
-slice-aggregate-path : tie.Need-slice-aggregate-path
-slice-aggregate-path c = search needs
+slice-aggregate-path-into : tie.Need-slice-aggregate-path-into
+slice-aggregate-path-into c = search needs
 
-path-requires : tie.Need-path-requires
-path-requires c κs = search needs
+path-into-requires : tie.Need-path-into-requires
+path-into-requires c κs = search needs
 
 enum-known-found : tie.Need-enum-known-found
 enum-known-found c = search needs
@@ -30,7 +30,7 @@ word-requires c κs = search needs
 
 vertices-requires : tie.Need-vertices-requires
 vertices-requires c κs =
-    let p = c .before .before .before .before .before .before .before .path in
+    let p = c .before .before .before .before .before .before .before .path-into in
     let size : length (p .last .1 .0) ≡ 128 = search needs in
     omega (arith, path-fits (p .ensures) size _ (c .before .before .before .before .found2 .given .1))
 
@@ -50,8 +50,8 @@ pub path-spec : {M : Type 1} → statement M
 path-spec =
     tie.close
     (tie.spec
-    slice-aggregate-path
-    path-requires
+    slice-aggregate-path-into
+    path-into-requires
     enum-known-found
     refusal-requires
     enum-known-found-2

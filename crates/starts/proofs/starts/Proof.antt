@@ -6,13 +6,13 @@ use native.Mathlib.Omega.{arith}
 use borrow.Author.Needs.{needs}
 use Rattle.model.specs.Places.{table, padded}
 use Rattle.model.proofs.Tables.{padded-none, padded-more}
-use Rattle.starts.specs.Starts.{startOf}
+use Rattle.starts.specs.Starts.{firstEdge}
 use Rattle.starts.proofs.Together.{start-in, start-later}
 use Rattle.starts.proofs.starts.Statement.{statement}
 use Rattle.starts.proofs.starts.Tie as tie
 
 abbrev Inv-loop : tie.InvT-loop
-Inv-loop g edges list₀ at₀ u₀ list at u = (u ≤ 129) × (list ≡ padded 129 (startOf g) u) × (at ≤ startOf g u)
+Inv-loop g edges list₀ at₀ u₀ list at u = (u ≤ 129) × (list ≡ padded 129 (firstEdge g) u) × (at ≤ firstEdge g u)
 
 abbrev μ-loop : tie.MeasureT-loop
 μ-loop g edges list₀ at₀ u₀ list at u = 129 - u
@@ -55,7 +55,7 @@ loop-again : tie.Need-loop-again Inv-loop μ-loop
 loop-again c =
     let a = c .before .before .before .before .before .args in
     let l = c .before .before .before .before .loop in
-    (search needs, rw (c .start .ensures, l .inv .1) (padded-more 129 (startOf (a .t1)) (l .u) (omega arith)), rw (c .start .ensures) (start-later (a .t1 .edge) (a .t1 .edges) (l .u)))
+    (search needs, rw (c .start .ensures, l .inv .1) (padded-more 129 (firstEdge (a .t1)) (l .u) (omega arith)), rw (c .start .ensures) (start-later (a .t1 .edge) (a .t1 .edges) (l .u)))
 
 -- src/lib.rt:38:1
 returns : tie.Need-returns Inv-loop μ-loop
@@ -63,7 +63,7 @@ unfolding padded
 returns c =
     let l = c .before .loop in
     let e : l .u ≡ 129 = omega arith in
-    rw e at (l .inv .1) ∙ append-nil (table (startOf (c .before .before .args .t1)) 129)
+    rw e at (l .inv .1) ∙ append-nil (table (firstEdge (c .before .before .args .t1)) 129)
 
 pub starts-spec : {M : Type 1} → statement M
 starts-spec =

@@ -6,7 +6,7 @@ use borrow.Author.Needs.{needs}
 use Rattle.model.specs.Places.{largest}
 use Rattle.model.specs.Bounds.{PARTS, vol, volume, mostCores}
 use Rattle.graph.specs.Model.{asModel}
-use Rattle.bounds.specs.declared.weights.Measure.the-variants.{Plain, Scaled}
+use Rattle.weights.specs.declared.Measure.the-variants.{Plain, Scaled}
 use Rattle.bounds.proofs.Weighing.{small-stages, some-cores, weighed-by, greatest-by, small-by, plain-most, plain-is, scaled-most, scaled-is}
 use Rattle.bounds.proofs.accepted.figures.Statement.{statement}
 use Rattle.bounds.proofs.accepted.figures.Tie as tie

@@ -5,7 +5,7 @@ use mathlib.Core.List.{_++_}
 use Prim.Native.Nat.{_-_, _≤_}
 use lib.ListN.{drop}
 use Rattle.model.specs.Places.{table}
-use Rattle.tick.specs.Remains.{place}
+use Rattle.remains.specs.Remains.{place}
 use Rattle.schedule.proofs.Written.{written-none, written-more, written-length}
 use Rattle.schedule.proofs.lent.hand_over.Statement.{statement}
 use Rattle.schedule.proofs.lent.hand_over.Tie as tie

@@ -8,10 +8,10 @@ use Rattle.tick.proofs.Run.advance.Statement.{statement}
 use Rattle.tick.proofs.Run.advance.Tie as tie
 use Rattle.tick.proofs.Run.advance.Reads as reads
 use Rattle.tick.proofs.Run.advance.Lts as lts
-use Rattle.tick.proofs.remains.lower.Reads as lower-reads
+use Rattle.remains.proofs.lower.Reads as lower-reads
 use Rattle.vset.proofs.minus.Reads as minus-reads
 
--- src/lib.rt:50:13
+-- src/lib.rt:49:13
 lower-requires : tie.Need-lower-requires
 unfolding leftOf
 lower-requires c κs =
@@ -19,15 +19,15 @@ lower-requires c κs =
     let long : length (s .args .self .left) ≡ 128 = search needs in
     (long, λ v t. s .pre .1 .1 .0 v t .1)
 
--- src/lib.rt:52:9
+-- src/lib.rt:51:9
 minus-requires : tie.Need-minus-requires
 minus-requires c κs = search needs
 
--- src/lib.rt:53:24
+-- src/lib.rt:52:24
 add-self : tie.Need-add-self
 add-self c = search needs
 
--- src/lib.rt:42:5
+-- src/lib.rt:41:5
 returns : tie.Need-returns
 returns c =
     let s = c .before .before .before .before .before in

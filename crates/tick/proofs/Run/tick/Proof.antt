@@ -9,7 +9,7 @@ use Rattle.vset.specs.Members.{isIn}
 use Rattle.tick.specs.declared.Ticked.{Ticked}
 use Rattle.tick.specs.declared.Report.the-variants.{Moved}
 use Rattle.tick.specs.Run.{leftOf, stateOf, recordOf, over, tickedOf}
-use Rattle.tick.proofs.ByKind.{kinds-known, few-go-on}
+use Rattle.choice.proofs.ByKind.{kinds-known, few-go-on}
 use Rattle.tick.proofs.Suiting.{passed, suits-sound, nothing-left}
 use Rattle.tick.proofs.Ticking.{over-is, on-is, on-runs}
 use Rattle.tick.proofs.Records.{after-leap}
@@ -19,10 +19,10 @@ use Rattle.tick.proofs.Run.tick.Tie as tie
 use Rattle.tick.proofs.Run.tick.Reads as reads
 use Rattle.tick.proofs.Run.tick.Lts as lts
 use Rattle.tick.proofs.Run.advance.Reads as advance-reads
-use Rattle.tick.proofs.choice.chosen.Reads as chosen-reads
-use Rattle.tick.proofs.choice.of_kinds.Reads as of-kinds-reads
-use Rattle.tick.proofs.ready.behind.Reads as behind-reads
-use Rattle.tick.proofs.ready.busy.Reads as busy-reads
+use Rattle.choice.proofs.chosen.Reads as chosen-reads
+use Rattle.choice.proofs.of_kinds.Reads as of-kinds-reads
+use Rattle.ready.proofs.behind.Reads as behind-reads
+use Rattle.ready.proofs.busy.Reads as busy-reads
 use Rattle.vset.proofs.is_empty.Reads as is-empty-reads
 use Rattle.vset.proofs.minus.Reads as minus-reads
 
@@ -54,46 +54,47 @@ runs-by c =
     let w = c .before .before .before .of-kinds in
     on-runs (s .args .g) (s .pre .0) (s .args .self) (past-by s) (isIn (b .result)) (b .ensures .are) (isIn (h .result)) (h .ensures .are) (isIn (a .result)) (a .ensures .are) (w .result) (w .ensures) (isIn (c .chosen .result)) (c .chosen .ensures .are)
 
--- src/lib.rt:63:13
+-- src/lib.rt:64:13
 busy-requires : tie.Need-busy-requires
 busy-requires c κs = search needs
 
--- src/lib.rt:64:12
+-- src/lib.rt:65:12
 is-empty-requires : tie.Need-is-empty-requires
 is-empty-requires c κs = search needs
 
--- src/lib.rt:65:13
+-- src/lib.rt:66:13
 returns : tie.Need-returns
 unfolding tickedOf
 returns c = rw (over-by (c .before) ∙ c .if1 .taken) refl
 
--- src/lib.rt:70:38
+-- src/lib.rt:71:38
 behind-requires : tie.Need-behind-requires
 behind-requires c κs = search needs
 
--- src/lib.rt:70:13
+-- src/lib.rt:71:13
 minus-requires : tie.Need-minus-requires
 minus-requires c κs = search needs
 
--- src/lib.rt:73:21
+-- src/lib.rt:74:21
 of-kinds-requires : tie.Need-of-kinds-requires
 of-kinds-requires c κs = let s = c .before .before .before .before .before .before .before .before .before .before in (s .pre .0 .few-vertices, kinds-known (s .args .g) (s .pre .0))
 
--- src/lib.rt:74:13
+-- src/lib.rt:75:13
 chosen-requires : tie.Need-chosen-requires
+unfolding stateOf
 chosen-requires c κs =
     let s = c .before .before .before .before .before .before .before .before .before .before .before .before .before in
-    (s .pre .0 .few-kinds, few-go-on (s .args .g) (s .pre .0) (c .before .before .of-kinds .result) (c .before .before .of-kinds .ensures) (isIn (c .before .before .before .before .before .before .minus .result)) (isIn (s .args .self .ran)) (passed (s .args .g) (s .args .self) (s .pre .1) .fair))
+    (s .pre .0 .few-kinds, few-go-on (s .args .g) (s .pre .0) (c .before .before .of-kinds .result) (c .before .before .of-kinds .ensures) (isIn (c .before .before .before .before .before .before .minus .result)) (stateOf (s .args .self)) (suits-sound (s .args .g) (s .args .self) (s .pre .0) (s .pre .1) .few-marked))
 
--- src/lib.rt:75:9
+-- src/lib.rt:76:9
 advance-requires : tie.Need-advance-requires
 unfolding leftOf
 advance-requires c κs =
     let s = c .before .before .before .before .before .before .before .before .before .before .before .before .before .before in
     let S = suits-sound (s .args .g) (s .args .self) (s .pre .0) (s .pre .1) in
-    (omega (arith, S .agrees, s .pre .0 .few-vertices), (omega (arith, S .in-time), ((λ v t. rw (S .agrees) (runs-by c v t)), (λ v l. past-by s v (rw (← S .agrees) l)))))
+    (omega (arith, S .agrees, s .pre .0 .few-vertices), (omega (arith, S .in-time), ((λ v t. (rw (S .agrees) (runs-by c v t .0), omega (arith, runs-by c v t .1))), (λ v l. past-by s v (rw (← S .agrees) l)))))
 
--- src/lib.rt:56:5
+-- src/lib.rt:57:5
 returns-2 : tie.Need-returns-2
 unfolding tickedOf
 returns-2 c =

@@ -1,0 +1,95 @@
+-- What the contract of each entry allows is what its definition says. Everything else in this crate is proved from these lines, so that a
+-- contract which is weakened breaks here.
+use mathlib.Core.Path.{_≡_, sym, ap, ap₂, _∙_}
+use mathlib.Core.List.{List}
+use Prim.Native.Nat.{ℕ}
+use lib.ListN.{length}
+use Rattle.graph.specs.Judge.{readOf}
+use Rattle.graph.specs.declared.Taken.{Taken}
+use Rattle.writer.specs.Lists.{Lists}
+use Rattle.writer.specs.Write.{wroteOf, roomAfter}
+use Rattle.writer.specs.declared.Wrote.{Wrote}
+use Rattle.bounds.specs.Answers.{BoundsOf, PathOf}
+use Rattle.bounds.specs.declared.Bounded.{Bounded}
+use Rattle.bounds.specs.declared.Pathed.{Pathed}
+use Rattle.tick.specs.declared.Run.{Run}
+use Rattle.tick.specs.declared.Report.{Report}
+use Rattle.tick.specs.declared.Ticked.{Ticked}
+use Rattle.schedule.specs.Start.{startOf}
+use Rattle.schedule.specs.Tick.{tickOf}
+use Rattle.schedule.specs.Whole.{playOf, finishesOf}
+use Rattle.schedule.specs.declared.Started.{Started}
+use Rattle.schedule.specs.declared.Played.{Played}
+use Rattle.codes.specs.Coded.{codedGraph, codedWrote, BoundsCoded, PathCoded}
+use Rattle.codes.specs.CodedRun.{codedStart, codedReport, codedTick, codedPlay}
+use Rattle.codes.specs.declared.PlannerGraph.{PlannerGraph}
+use Rattle.codes.specs.declared.PlannerCount.{PlannerCount}
+use Rattle.codes.specs.declared.PlannerBounds.{PlannerBounds}
+use Rattle.codes.specs.declared.PlannerRun.{PlannerRun}
+use Rattle.codes.specs.declared.PlannerMoved.{PlannerMoved}
+use Rattle.codes.specs.declared.PlannerTick.{PlannerTick}
+use Rattle.codes.specs.declared.PlannerFinish.{PlannerFinish}
+use Rattle.claims.specs.Entries.{ReadGives, WriteGives, BoundsGives, PathGives, StartGives, TickGives, TickInPlaceGives, RunGives, PlannerReadGives, PlannerWriteGives, PlannerBoundsGives, PlannerPathGives, PlannerStartGives, PlannerTickGives, PlannerTickInPlaceGives, PlannerRunGives}
+
+pub read-given : {s : List ℕ} {t : Taken} → ReadGives s t → t ≡ readOf s
+read-given h = sym (h .as-seen .1) ∙ h .ensured ∙ ap readOf (h .as-seen .0)
+
+pub write-given : {g : Lists} {old new : List ℕ} {w : Wrote} → WriteGives g old w new → (w ≡ wroteOf g (length old)) × (new ≡ roomAfter g old)
+write-given h =
+    let i = h .as-seen in (
+      sym (i .2) ∙ h .ensured .0 ∙ ap₂ (λ (x : Lists) (y : List ℕ). wroteOf x (length y)) (i .0) (i .1),
+      sym (i .3) ∙ h .ensured .1 ∙ ap₂ roomAfter (i .0) (i .1),
+    )
+
+pub bounds-given : {s : List ℕ} {b : Bounded} → BoundsGives s b → BoundsOf s b
+bounds-given h = rw (← h .as-seen .0, ← h .as-seen .1) (h .ensured)
+
+pub path-given : {s old new : List ℕ} {p : Pathed} → PathGives s old p new → PathOf s old p new
+path-given h = let i = h .as-seen in rw (← i .0, ← i .1, ← i .2, ← i .3) (h .ensured)
+
+pub start-given : {s e : List ℕ} {r : Started} → StartGives s e r → r ≡ startOf s e
+start-given h = let i = h .as-seen in sym (i .2) ∙ h .ensured ∙ ap₂ startOf (i .0) (i .1)
+
+pub tick-given : {s : List ℕ} {r : Run} {t : Ticked} → TickGives s r t → t ≡ tickOf s r
+tick-given h = let i = h .as-seen in sym (i .2) ∙ h .ensured ∙ ap₂ tickOf (i .0) (i .1)
+
+pub tick-in-place-given : {s : List ℕ} {r r′ : Run} {x : Report} → TickInPlaceGives s r x r′ → record { report = x; run = r′ } ≡ tickOf s r
+tick-in-place-given h =
+    let i = h .as-seen in
+    ap₂ (λ (y : Report) (q : Run). record { report = y; run = q }) (sym (i .2) ∙ h .ensured .1) (sym (i .3) ∙ h .ensured .0) ∙ ap₂ tickOf (i .0) (i .1)
+
+pub run-given : {s e old new : List ℕ} {p : Played} → RunGives s e old p new → (p ≡ playOf s e (length old)) × (new ≡ finishesOf s e old)
+run-given h = let i = h .as-seen in rw (← i .0, ← i .1, ← i .2, ← i .3, ← i .4) (h .ensured)
+
+-- ---- for C and Rust
+
+pub planner-read-given : {s : List ℕ} {r : PlannerGraph} → PlannerReadGives s r → r ≡ codedGraph (readOf s)
+planner-read-given h = sym (h .as-seen .1) ∙ h .ensured ∙ ap (λ (s : List ℕ). codedGraph (readOf s)) (h .as-seen .0)
+
+pub planner-write-given : {g : Lists} {old new : List ℕ} {w : PlannerCount} → PlannerWriteGives g old w new
+    → (w ≡ codedWrote (wroteOf g (length old))) × (new ≡ roomAfter g old)
+planner-write-given h =
+    let i = h .as-seen in (
+      sym (i .2) ∙ h .ensured .0 ∙ ap₂ (λ (x : Lists) (y : List ℕ). codedWrote (wroteOf x (length y))) (i .0) (i .1),
+      sym (i .3) ∙ h .ensured .1 ∙ ap₂ roomAfter (i .0) (i .1),
+    )
+
+pub planner-bounds-given : {s : List ℕ} {b : PlannerBounds} → PlannerBoundsGives s b → BoundsCoded s b
+planner-bounds-given h = rw (← h .as-seen .0, ← h .as-seen .1) (h .ensured)
+
+pub planner-path-given : {s old new : List ℕ} {p : PlannerCount} → PlannerPathGives s old p new → PathCoded s old p new
+planner-path-given h = let i = h .as-seen in rw (← i .0, ← i .1, ← i .2, ← i .3) (h .ensured)
+
+pub planner-start-given : {s e : List ℕ} {r : PlannerRun} → PlannerStartGives s e r → r ≡ codedStart (startOf s e)
+planner-start-given h = let i = h .as-seen in rw (← i .0, ← i .1, ← i .2) (h .ensured)
+
+pub planner-tick-given : {s : List ℕ} {r : Run} {t : PlannerTick} → PlannerTickGives s r t → t ≡ codedTick (tickOf s r)
+planner-tick-given h = let i = h .as-seen in rw (← i .0, ← i .1, ← i .2) (h .ensured)
+
+pub planner-tick-in-place-given : {s : List ℕ} {r r′ : Run} {x : PlannerMoved} → PlannerTickInPlaceGives s r x r′
+    → (r′ ≡ tickOf s r .run) × (x ≡ codedReport (tickOf s r .report))
+planner-tick-in-place-given h = let i = h .as-seen in rw (← i .0, ← i .1, ← i .2, ← i .3) (h .ensured)
+
+pub planner-run-given : {s e old new : List ℕ} {p : PlannerFinish} → PlannerRunGives s e old p new
+    → (p ≡ codedPlay (playOf s e (length old))) × (new ≡ finishesOf s e old)
+planner-run-given h = let i = h .as-seen in rw (← i .0, ← i .1, ← i .2, ← i .3, ← i .4) (h .ensured)

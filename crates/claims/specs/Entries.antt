@@ -1,0 +1,129 @@
+-- What each entry gives, said over its contract. `ReadGives s t`: the contract of `read` allows, for a file whose bytes are s, the value t.
+-- An entry has no `requires` and ends, so that there is such a value for every input; its one-outcome theorem says that there is one only.
+--
+--   ReadGives s t                    `read`: the value for the file s
+--   WriteGives g old w new           `write`: the answer for the lists g, and the lent room from old to new
+--   BoundsGives s b                  `bounds`: the answer for the file s
+--   PathGives s old p new            `path`: the answer for the file s, and the lent list from old to new
+--   StartGives s e r                 `start`: the answer for the file s and the times e
+--   TickGives s r t                  `tick`: what the record r becomes
+--   TickInPlaceGives s r x r′        `tick_in_place`: the report, and the caller's record from r to r′
+--   RunGives s e old p new           `run`: the answer for the file s and the times e, and the lent list from old to new
+--   PlannerReadGives s r, ..         the same of the entries for C and Rust
+use mathlib.Core.Path.{_≡_}
+use mathlib.Core.List.{List}
+use Prim.Native.Nat.{ℕ}
+use denote.Ref.{now}
+use Rattle.outcome.specs.Allows.{Allows}
+use Rattle.graph.specs.declared.Taken.{Taken}
+use Rattle.reader.proofs.read as read
+use Rattle.reader.proofs.read.Reads as read-reads
+use Rattle.writer.specs.Lists.{Lists, lists}
+use Rattle.writer.specs.declared.Wrote.{Wrote}
+use Rattle.writer.proofs.write as write
+use Rattle.writer.proofs.write.Reads as write-reads
+use Rattle.bounds.specs.declared.Bounded.{Bounded}
+use Rattle.bounds.specs.declared.Pathed.{Pathed}
+use Rattle.bounds.proofs.bounds as bounds
+use Rattle.bounds.proofs.bounds.Reads as bounds-reads
+use Rattle.bounds.proofs.path as path
+use Rattle.bounds.proofs.path.Reads as path-reads
+use Rattle.tick.specs.declared.Run.{Run}
+use Rattle.tick.specs.declared.Report.{Report}
+use Rattle.tick.specs.declared.Ticked.{Ticked}
+use Rattle.schedule.specs.declared.Started.{Started}
+use Rattle.schedule.specs.declared.Played.{Played}
+use Rattle.schedule.proofs.start as start
+use Rattle.schedule.proofs.start.Reads as start-reads
+use Rattle.schedule.proofs.tick as tick
+use Rattle.schedule.proofs.tick.Reads as tick-reads
+use Rattle.schedule.proofs.tick_in_place as tick-in-place
+use Rattle.schedule.proofs.run as run
+use Rattle.schedule.proofs.run.Reads as run-reads
+use Rattle.schedule.proofs.Outcomes.{tick-in-place-stated}
+use Rattle.codes.specs.declared.PlannerGraph.{PlannerGraph}
+use Rattle.codes.specs.declared.PlannerCount.{PlannerCount}
+use Rattle.codes.specs.declared.PlannerBounds.{PlannerBounds}
+use Rattle.codes.specs.declared.PlannerRun.{PlannerRun}
+use Rattle.codes.specs.declared.PlannerMoved.{PlannerMoved}
+use Rattle.codes.specs.declared.PlannerTick.{PlannerTick}
+use Rattle.codes.specs.declared.PlannerFinish.{PlannerFinish}
+use Rattle.planner.proofs.planner_read as planner-read
+use Rattle.planner.proofs.planner_read.Reads as planner-read-reads
+use Rattle.planner.proofs.planner_write as planner-write
+use Rattle.planner.proofs.planner_write.Reads as planner-write-reads
+use Rattle.planner.proofs.planner_bounds as planner-bounds
+use Rattle.planner.proofs.planner_bounds.Reads as planner-bounds-reads
+use Rattle.planner.proofs.planner_path as planner-path
+use Rattle.planner.proofs.planner_path.Reads as planner-path-reads
+use Rattle.planner.proofs.planner_start as planner-start
+use Rattle.planner.proofs.planner_start.Reads as planner-start-reads
+use Rattle.planner.proofs.planner_tick as planner-tick
+use Rattle.planner.proofs.planner_tick.Reads as planner-tick-reads
+use Rattle.planner.proofs.planner_tick_in_place as planner-tick-in-place
+use Rattle.planner.proofs.planner_run as planner-run
+use Rattle.planner.proofs.planner_run.Reads as planner-run-reads
+use Rattle.planner.proofs.Outcomes.{planner-tick-in-place-stated}
+
+abbrev pub ReadGives : List ℕ → Taken → Type 0
+ReadGives s t = Allows read.ended read-reads.Post (λ κs a r e. (now (a .0) ≡ s) × (r ≡ t))
+
+abbrev pub WriteGives : Lists → List ℕ → Wrote → List ℕ → Type 0
+WriteGives g old w new =
+    Allows write.ended write-reads.Post
+    (λ κs a r e. (lists (now (a .0)) (now (a .1 .0)) (now (a .1 .1 .0)) (now (a .1 .1 .1 .0)) ≡ g) × (now (a .1 .1 .1 .1 .0) ≡ old) × (r ≡ w) × (now (e .1 .1 .1 .1 .0) ≡ new))
+
+abbrev pub BoundsGives : List ℕ → Bounded → Type 0
+BoundsGives s b = Allows bounds.ended bounds-reads.Post (λ κs a r e. (now (a .0) ≡ s) × (r ≡ b))
+
+abbrev pub PathGives : List ℕ → List ℕ → Pathed → List ℕ → Type 0
+PathGives s old p new =
+    Allows path.ended path-reads.Post (λ κs a r e. (now (a .0) ≡ s) × (now (a .1 .0) ≡ old) × (r ≡ p) × (now (e .1 .0) ≡ new))
+
+abbrev pub StartGives : List ℕ → List ℕ → Started → Type 0
+StartGives s e r = Allows start.ended start-reads.Post (λ κs a x w. (now (a .0) ≡ s) × (now (a .1 .0) ≡ e) × (x ≡ r))
+
+abbrev pub TickGives : List ℕ → Run → Ticked → Type 0
+TickGives s r t = Allows tick.ended tick-reads.Post (λ κs a x e. (now (a .1 .0) ≡ s) × (a .0 ≡ r) × (x ≡ t))
+
+abbrev pub TickInPlaceGives : List ℕ → Run → Report → Run → Type 0
+TickInPlaceGives s r x r′ =
+    Allows tick-in-place.ended (tick-in-place-stated .post) (λ κs a y e. (now (a .1 .0) ≡ s) × (now (a .0) ≡ r) × (y ≡ x) × (now (e .0) ≡ r′))
+
+abbrev pub RunGives : List ℕ → List ℕ → List ℕ → Played → List ℕ → Type 0
+RunGives s e old p new =
+    Allows run.ended run-reads.Post (λ κs a r w. (now (a .0) ≡ s) × (now (a .1 .0) ≡ e) × (now (a .1 .1 .0) ≡ old) × (r ≡ p) × (now (w .1 .1 .0) ≡ new))
+
+-- ---- for C and Rust
+
+abbrev pub PlannerReadGives : List ℕ → PlannerGraph → Type 0
+PlannerReadGives s r = Allows planner-read.ended planner-read-reads.Post (λ κs a x e. (now (a .0) ≡ s) × (x ≡ r))
+
+abbrev pub PlannerWriteGives : Lists → List ℕ → PlannerCount → List ℕ → Type 0
+PlannerWriteGives g old w new =
+    Allows planner-write.ended planner-write-reads.Post
+    (λ κs a r e. (lists (now (a .0)) (now (a .1 .0)) (now (a .1 .1 .0)) (now (a .1 .1 .1 .0)) ≡ g) × (now (a .1 .1 .1 .1 .0) ≡ old) × (r ≡ w) × (now (e .1 .1 .1 .1 .0) ≡ new))
+
+abbrev pub PlannerBoundsGives : List ℕ → PlannerBounds → Type 0
+PlannerBoundsGives s b = Allows planner-bounds.ended planner-bounds-reads.Post (λ κs a r e. (now (a .0) ≡ s) × (r ≡ b))
+
+abbrev pub PlannerPathGives : List ℕ → List ℕ → PlannerCount → List ℕ → Type 0
+PlannerPathGives s old p new =
+    Allows planner-path.ended planner-path-reads.Post (λ κs a r e. (now (a .0) ≡ s) × (now (a .1 .0) ≡ old) × (r ≡ p) × (now (e .1 .0) ≡ new))
+
+abbrev pub PlannerStartGives : List ℕ → List ℕ → PlannerRun → Type 0
+PlannerStartGives s e r =
+    Allows planner-start.ended planner-start-reads.Post (λ κs a x w. (now (a .0) ≡ s) × (now (a .1 .0) ≡ e) × (x ≡ r))
+
+abbrev pub PlannerTickGives : List ℕ → Run → PlannerTick → Type 0
+PlannerTickGives s r t = Allows planner-tick.ended planner-tick-reads.Post (λ κs a x e. (now (a .1 .0) ≡ s) × (a .0 ≡ r) × (x ≡ t))
+
+abbrev pub PlannerTickInPlaceGives : List ℕ → Run → PlannerMoved → Run → Type 0
+PlannerTickInPlaceGives s r x r′ =
+    Allows planner-tick-in-place.ended (planner-tick-in-place-stated .post)
+    (λ κs a y e. (now (a .1 .0) ≡ s) × (now (a .0) ≡ r) × (y ≡ x) × (now (e .0) ≡ r′))
+
+abbrev pub PlannerRunGives : List ℕ → List ℕ → List ℕ → PlannerFinish → List ℕ → Type 0
+PlannerRunGives s e old p new =
+    Allows planner-run.ended planner-run-reads.Post
+    (λ κs a r w. (now (a .0) ≡ s) × (now (a .1 .0) ≡ e) × (now (a .1 .1 .0) ≡ old) × (r ≡ p) × (now (w .1 .1 .0) ≡ new))

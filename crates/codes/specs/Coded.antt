@@ -1,0 +1,46 @@
+-- The answers as C sees them: document 01's number and place, 0 and 0 where nothing is refused, and the values beside them.
+--
+--   codedGraph, codedWrote, ..        each entry's answer, by its number, place and value (`Said`)
+--   BoundsCoded s r                   r is the coded answer of `bounds` for the file s
+--   PathCoded s old r new             r is the coded answer of `path` for the file s, and the lent list goes from old to new
+use mathlib.Core.Path.{_≡_}
+use mathlib.Core.List.{List}
+use Prim.Native.Nat.{ℕ}
+use Rattle.graph.specs.Said.{ofAnswer}
+use Rattle.graph.specs.declared.Taken.{Taken}
+use Rattle.writer.specs.declared.Wrote.{Wrote}
+use Rattle.writer.specs.Write.{ofWrote}
+use Rattle.bounds.specs.Answers.{BoundsOf, PathOf, ofPathed}
+use Rattle.bounds.specs.declared.Bounded.{Bounded}
+use Rattle.bounds.specs.declared.Pathed.{Pathed}
+use Rattle.codes.specs.declared.PlannerGraph.{PlannerGraph}
+use Rattle.codes.specs.declared.PlannerCount.{PlannerCount}
+use Rattle.codes.specs.declared.PlannerBounds.{PlannerBounds}
+
+abbrev pub codedGraph : Taken → PlannerGraph
+codedGraph t = record { number = ofAnswer (t .answer) .number; place = ofAnswer (t .answer) .place; graph = t .graph }
+
+abbrev pub codedWrote : Wrote → PlannerCount
+codedWrote w = record { number = ofWrote w .number; place = ofWrote w .place; count = ofWrote w .value }
+
+abbrev pub codedPath : Pathed → PlannerCount
+codedPath p = record { number = ofPathed p .number; place = ofPathed p .place; count = ofPathed p .value }
+
+abbrev pub codedBounds : Bounded → PlannerBounds
+codedBounds b = record {
+  number = ofAnswer (b .answer) .number;
+  place = ofAnswer (b .answer) .place;
+  old = b .old .0;
+  new = b .new .0;
+  ticks = b .ticks .0;
+}
+
+pub record BoundsCoded (s : List ℕ) (r : PlannerBounds) : Type 0 where
+  pub bounded : Bounded
+  pub of : BoundsOf s bounded
+  pub coded : r ≡ codedBounds bounded
+
+pub record PathCoded (s old : List ℕ) (r : PlannerCount) (new : List ℕ) : Type 0 where
+  pub found : Pathed
+  pub of : PathOf s old found new
+  pub coded : r ≡ codedPath found

@@ -1,0 +1,2 @@
+pub mod Coded
+pub mod CodedRun

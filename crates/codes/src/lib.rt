@@ -1,0 +1,218 @@
+// The answers as C sees them: numbers, and structs laid out as C lays them out. An answer begins with `number` and `place`: number 0 is no
+// refusal.
+ghost use mathlib.Core.Path.{_≡_};
+ghost use Rattle.graph.specs.Said.{ofAnswer};
+ghost use Rattle.codes.specs.Coded.{codedGraph, codedWrote, codedPath, codedBounds};
+ghost use Rattle.codes.specs.CodedRun.{codedStart, codedReport, codedTick, codedPlay};
+use bounds::Bounded;
+use bounds::Pathed;
+use graph::Answer;
+use graph::Graph;
+use graph::Taken;
+use schedule::Played;
+use schedule::Started;
+use tick::Report;
+use tick::Run;
+use tick::Ticked;
+use writer::Wrote;
+
+// The graph of a file; zero throughout beside a refusal.
+#[repr(C)]
+pub struct PlannerGraph {
+    pub number: u32,
+    pub place: u32,
+    pub graph: Graph,
+}
+
+// How many bytes were written, or vertices a path has; 0 beside a refusal.
+#[repr(C)]
+pub struct PlannerCount {
+    pub number: u32,
+    pub place: u32,
+    pub count: u64,
+}
+
+// Both bounds in parts of a tick, and NEW-B-1 in whole ticks; 0 beside a refusal.
+#[repr(C)]
+pub struct PlannerBounds {
+    pub number: u32,
+    pub place: u32,
+    pub old: u64,
+    pub new: u64,
+    pub ticks: u64,
+}
+
+// A run record at instant 0; zero and unmarked throughout beside a refusal.
+#[repr(C)]
+pub struct PlannerRun {
+    pub number: u32,
+    pub place: u32,
+    pub run: Run,
+}
+
+// What a tick reports: `moved` is 1 where the run moved, 0 where it was done or the tick was refused.
+#[repr(C)]
+pub struct PlannerMoved {
+    pub number: u32,
+    pub place: u32,
+    pub moved: u32,
+}
+
+// The same, and the record; the one that was given beside a refusal.
+#[repr(C)]
+pub struct PlannerTick {
+    pub number: u32,
+    pub place: u32,
+    pub moved: u32,
+    pub run: Run,
+}
+
+// The finish of a whole run; 0 beside a refusal.
+#[repr(C)]
+pub struct PlannerFinish {
+    pub number: u32,
+    pub place: u32,
+    pub finish: u64,
+}
+
+fn number(answer: Answer) -> u32
+    ensures { λ r. ⌜ r ≡ ofAnswer answer .number ⌝ }
+{
+    match answer {
+        Answer::Accepted => 0,
+        Answer::Refused(refusal) => refusal.number,
+    }
+}
+
+fn place(answer: Answer) -> u32
+    ensures { λ r. ⌜ r ≡ ofAnswer answer .place ⌝ }
+{
+    match answer {
+        Answer::Accepted => 0,
+        Answer::Refused(refusal) => refusal.place,
+    }
+}
+
+pub fn coded_graph(taken: Taken) -> PlannerGraph
+    ensures { λ r. ⌜ r ≡ codedGraph taken ⌝ }
+{
+    let answer = taken.answer;
+    let graph = taken.graph;
+    PlannerGraph {
+        number: number(answer),
+        place: place(answer),
+        graph,
+    }
+}
+
+pub fn coded_wrote(wrote: Wrote) -> PlannerCount
+    ensures { λ r. ⌜ r ≡ codedWrote wrote ⌝ }
+{
+    match wrote {
+        Wrote::Bytes(size) => PlannerCount {
+            number: 0,
+            place: 0,
+            count: size as u64,
+        },
+        Wrote::Refused(refusal) => PlannerCount {
+            number: refusal.number,
+            place: refusal.place,
+            count: 0,
+        },
+    }
+}
+
+pub fn coded_bounds(bounded: Bounded) -> PlannerBounds
+    ensures { λ r. ⌜ r ≡ codedBounds bounded ⌝ }
+{
+    let answer = bounded.answer;
+    PlannerBounds {
+        number: number(answer),
+        place: place(answer),
+        old: bounded.old.0,
+        new: bounded.new.0,
+        ticks: bounded.ticks.0,
+    }
+}
+
+pub fn coded_path(pathed: Pathed) -> PlannerCount
+    ensures { λ r. ⌜ r ≡ codedPath pathed ⌝ }
+{
+    match pathed {
+        Pathed::Vertices(n) => PlannerCount {
+            number: 0,
+            place: 0,
+            count: n as u64,
+        },
+        Pathed::Refused(refusal) => PlannerCount {
+            number: refusal.number,
+            place: refusal.place,
+            count: 0,
+        },
+    }
+}
+
+pub fn coded_start(started: Started) -> PlannerRun
+    ensures { λ r. ⌜ r ≡ codedStart started ⌝ }
+{
+    let answer = started.answer;
+    let run = started.run;
+    PlannerRun {
+        number: number(answer),
+        place: place(answer),
+        run,
+    }
+}
+
+pub fn coded_report(report: Report) -> PlannerMoved
+    ensures { λ r. ⌜ r ≡ codedReport report ⌝ }
+{
+    match report {
+        Report::Moved => PlannerMoved {
+            number: 0,
+            place: 0,
+            moved: 1,
+        },
+        Report::Done => PlannerMoved {
+            number: 0,
+            place: 0,
+            moved: 0,
+        },
+        Report::Refused(refusal) => PlannerMoved {
+            number: refusal.number,
+            place: refusal.place,
+            moved: 0,
+        },
+    }
+}
+
+pub fn coded_tick(ticked: Ticked) -> PlannerTick
+    ensures { λ r. ⌜ r ≡ codedTick ticked ⌝ }
+{
+    let run = ticked.run;
+    let report = ticked.report;
+    let said = coded_report(report);
+    PlannerTick {
+        number: said.number,
+        place: said.place,
+        moved: said.moved,
+        run,
+    }
+}
+
+pub fn coded_play(played: Played) -> PlannerFinish
+    ensures { λ r. ⌜ r ≡ codedPlay played ⌝ }
+{
+    match played {
+        Played::Finish(finish) => PlannerFinish {
+            number: 0,
+            place: 0,
+            finish: finish.0,
+        },
+        Played::Refused(refusal) => PlannerFinish {
+            number: refusal.number,
+            place: refusal.place,
+            finish: 0,
+        },
+    }
+}

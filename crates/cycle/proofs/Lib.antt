@@ -1,0 +1,4 @@
+-- Laws of marks and ranks.
+pub mod Marks
+pub mod Ranks
+pub mod Outcomes

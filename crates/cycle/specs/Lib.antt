@@ -1,0 +1,4 @@
+pub mod Last
+-- What only private functions speak of.
+pub mod Marks
+pub mod Ranks

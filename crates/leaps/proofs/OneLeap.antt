@@ -1,0 +1,203 @@
+-- One leap from a sound run: what runs, for how long, and that the run is sound again.
+use mathlib.Core.Path.{_≡_, refl, sym, ap, ap₂, _∙_, subst, fun-ext}
+use mathlib.Core.Logic.{_⊎_, inl, inr, ⊎-elim}
+use mathlib.Core.List.{List}
+use mathlib.Core.Bool.{Bool, true, false, not, _&&_, _||_, or-false, and-true, and-false}
+use Prim.Native.Nat.{ℕ, _+_, _-_, _≤_, _<_, zero-le}
+use native.Mathlib.Omega.{arith}
+use lib.Dec.{eqb, ltb}
+use lib.ListN.{getD, length}
+use borrow.Author.Tests.{lt-ltb, le-ltb, ltb-true}
+use Rattle.model.specs.Places.{pick, any, every, count, sum, table}
+use Rattle.model.specs.Graph as model
+use Rattle.model.specs.ListSchedule.{finished, chosen, leap, Fair}
+use Rattle.model.proofs.Bools.{cases, clash, le-or-lt, left-of, right-of, not-true, not-is-true}
+use Rattle.model.proofs.Places.{any-intro, some-counted, count-less}
+use Rattle.model.proofs.Sums.{sum-term}
+use Rattle.model.proofs.Tables.{table-length}
+use Rattle.model.proofs.Finished.{fin-left}
+use Rattle.model.proofs.Listed.{some-chosen, fair-leap}
+use Rattle.graph.specs.declared.Graph.{Graph}
+use Rattle.graph.specs.Model.{asModel, AcceptedGraph}
+use Rattle.vset.specs.declared.Vset.{Vset}
+use Rattle.vset.specs.Members.{isIn, Members}
+use Rattle.tick.specs.declared.Run.{Run}
+use Rattle.tick.specs.Run.{MOST, leftOf, stateOf, recordOf, over}
+use Rattle.ready.specs.Ready.{someLeft, isBehind}
+use Rattle.waiting.specs.Waiting.{entering, Unsettled, Settled}
+use Rattle.remains.specs.Remains.{lowered}
+use Rattle.choice.specs.Choice.{OfKinds, chosenBy}
+use Rattle.ready.proofs.Ancestors.{last-edge, behind-walk}
+use Rattle.tick.proofs.Records.{still-left, moved-on, after-leap}
+use Rattle.tick.proofs.Ticking.{over-is, finished-by, on-is, on-able, on-runs}
+use Rattle.leaps.proofs.ByNumbers.{settled-behind}
+use Rattle.tick.proofs.Moved.{moved-state, moved-left, spend}
+use Rattle.leaps.specs.Leaps.{Work, LeastOf, Stamped, unfinished, Sound, Leapt}
+
+not-or : (a b : Bool) → a || b ≡ not (not a && not b)
+not-or true b = refl
+not-or false true = refl
+not-or false false = refl
+
+module _ (g : Graph) (A : AcceptedGraph g) where
+  abbrev G : model.Graph
+  G = asModel g
+
+  -- the unfinished vertices are those that are not finished
+  pub unfinished-is : (w : Work) → Sound g w → (v : ℕ) → v < g .n → unfinished w v ≡ not (finished G (leftOf (w .run)) v)
+  unfolding unfinished
+  unfinished-is w s v l =
+      not-or (isIn (w .busy) v) (isIn (w .behind) v)
+      ∙ ap not (sym (finished-by g A (w .run) (s .past) (isIn (w .busy)) (s .is-busy) (isIn (w .behind)) (s .is-behind) v l))
+
+  -- and there is none from N on
+  pub unfinished-past : (w : Work) → Sound g w → (v : ℕ) → g .n ≤ v → unfinished w v ≡ false
+  unfolding unfinished someLeft leftOf asModel
+  unfinished-past w s v l =
+      ap₂ _||_ (s .is-busy v ∙ ap (ltb 0) (s .past v l) ∙ le-ltb 0 0 zero-le)
+      (s .is-behind v ∙ not-true (isBehind G (isIn (w .busy)) v) (λ t.
+      let x = behind-walk (isIn (w .busy)) v t in
+      let e = last-edge (x .2) in
+      omega (arith, A .well-formed .to (e .0) v (e .1))))
+
+  pub over-all : (w : Work) → Sound g w → every (finished G (leftOf (w .run))) (g .n) ≡ not (any (isIn (w .busy)) 128)
+  unfolding over
+  over-all w s = over-is g A (w .run) (s .past) (isIn (w .busy)) (s .is-busy)
+
+  -- while a vertex has ticks left, one runs
+  pub one-runs : (w : Work) → Sound g w → 0 < count (isIn (w .busy)) 128 → (u : ℕ) × (u < g .n) × (chosen G (stateOf (w .run)) u ≡ true)
+  unfolding asModel someLeft leftOf stateOf
+  one-runs w sound some =
+      let b = some-counted (isIn (w .busy)) 128 some in
+      let left : 0 < leftOf (w .run) (b .0) = ltb-true 0 (leftOf (w .run) (b .0)) (sym (sound .is-busy (b .0)) ∙ b .2) in
+      let below : b .0 < g .n = ⊎-elim (λ (l : g .n ≤ b .0). absurd (omega (arith, sound .past (b .0) l))) (λ l. l) (le-or-lt (g .n) (b .0)) in
+      some-chosen (A .well-formed) (A .acyclic) (stateOf (w .run)) (sound .fair) (b .0) below (λ f. omega (arith, fin-left f))
+
+  -- ---- the leap that the code makes
+
+  module _ (w : Work) (sound : Sound g w) (some : 0 < count (isIn (w .busy)) 128) (able on : ℕ → Bool)
+      (is-able : (v : ℕ) → able v ≡ isIn (w .busy) v && not (isIn (w .behind) v)) (words : List ℕ) (W : OfKinds words (g .kind) (g .n))
+      (is-on : (v : ℕ) → on v ≡ chosenBy (g .kinds) (g .cores) words able (isIn (w .run .ran)) v) where
+    pub on-chosen : (v : ℕ) → on v ≡ chosen G (stateOf (w .run)) v
+    on-chosen = on-is g A (w .run) (sound .past) (isIn (w .busy)) (sound .is-busy) (isIn (w .behind)) (sound .is-behind) able is-able words W on is-on
+
+    on-has : (v : ℕ) → on v ≡ true → (v < g .n) × (1 ≤ leftOf (w .run) v)
+    on-has = on-runs g A (w .run) (sound .past) (isIn (w .busy)) (sound .is-busy) (isIn (w .behind)) (sound .is-behind) able is-able words W on is-on
+
+    able-on : (v : ℕ) → on v ≡ true → able v ≡ true
+    able-on = on-able g A (w .run) (sound .past) (isIn (w .busy)) (sound .is-busy) (isIn (w .behind)) (sound .is-behind) able is-able words W on is-on
+
+    pub some-on : any on 128 ≡ true
+    some-on =
+        let u = one-runs w sound some in
+        any-intro on 128 (u .0) (omega (arith, u .1, A .few-vertices)) (on-chosen (u .0) ∙ u .2)
+
+    module _ (d : ℕ) (least : LeastOf (leftOf (w .run)) on d) where
+      pub within : (v : ℕ) → on v ≡ true → (v < w .run .n) × (d ≤ leftOf (w .run) v)
+      within v t =
+          (rw (sound .agrees) (on-has v t .0), least .low v t)
+
+      pub at-most : w .run .instant + d ≤ MOST
+      at-most = omega (arith, least .value, sum-term (leftOf (w .run)) (least .who) (g .n) (on-has (least .who) (least .member) .0), sound .in-time)
+
+      enough : (v : ℕ) → chosen G (stateOf (w .run)) v ≡ true → d ≤ leftOf (w .run) v
+      enough v t = within v (on-chosen v ∙ t) .1
+
+      module _ (left : List ℕ) (over ran busy : Vset) (is-left : left ≡ table (lowered (w .run .left) on d) 128)
+          (is-over : (v : ℕ) → isIn over v ≡ on v && eqb (getD left v 0) 0) (is-ran : Members ran (λ v. on v && not (isIn over v)))
+          (busy-is : (v : ℕ) → isIn busy v ≡ isIn (w .busy) v && not (isIn over v)) where
+        abbrev next : Run
+        next = record { n = w .run .n; instant = w .run .instant + d; left = left; ran = ran }
+
+        moved : next ≡ recordOf (w .run .n) (w .run .instant + d) (leap G d (stateOf (w .run)))
+        moved =
+            moved-on (w .run) on d left (isIn over) ran (rw (sound .agrees) (A .few-vertices)) (λ v l. sound .past v (rw (← sound .agrees) l)) is-left is-over is-ran
+            ∙ ap (recordOf (w .run .n) (w .run .instant + d)) (after-leap G d (stateOf (w .run)) on on-chosen)
+
+        left-after : (v : ℕ) → leftOf next v ≡ leftOf (w .run) v - pick (chosen G (stateOf (w .run)) v) d 0
+        left-after = moved-left g A (w .run) (sound .agrees) (sound .past) d next moved
+
+        -- who has run out of ticks is no longer busy, and nobody else
+        is-busy : (v : ℕ) → isIn busy v ≡ someLeft left v
+        unfolding someLeft leftOf
+        is-busy v = busy-is v ∙ ap (λ (b : Bool). isIn (w .busy) v && not b) (is-over v) ∙ go (cases (on v))
+          where
+            go : (on v ≡ true) ⊎ (on v ≡ false) → isIn (w .busy) v && not (on v && eqb (getD left v 0) 0) ≡ ltb 0 (getD left v 0)
+            go (inl t) = rw (t, sound .is-busy v ∙ lt-ltb 0 (getD (w .run .left) v 0) (on-has v t .1)) (still-left true (getD left v 0))
+            go (inr f) =
+                let c : chosen G (stateOf (w .run)) v ≡ false = sym (on-chosen v) ∙ f in
+                let z : getD (w .run .left) v 0 ≡ getD left v 0 = omega (arith, rw c at (left-after v)) in
+                rw f (and-true (isIn (w .busy) v) ∙ sound .is-busy v ∙ ap (ltb 0) z)
+
+        -- the vertex with the fewest ticks left has none now
+        fewer : count (isIn busy) 128 < count (isIn (w .busy)) 128
+        unfolding someLeft leftOf
+        fewer =
+            let h = on-has (least .who) (least .member) in
+            let c : chosen G (stateOf (w .run)) (least .who) ≡ true = sym (on-chosen (least .who)) ∙ least .member in
+            let z : getD left (least .who) 0 ≡ 0 = omega (arith, rw c at (left-after (least .who)), least .value) in
+            count-less (isIn busy) (isIn (w .busy)) (least .who) 128 (omega (arith, h .0, A .few-vertices))
+            (λ v l t.
+            let b = ltb-true 0 (getD left v 0) (sym (is-busy v) ∙ t) in
+            sound .is-busy v ∙ lt-ltb 0 (getD (w .run .left) v 0) (omega (arith, left-after v)))
+            (sound .is-busy (least .who) ∙ lt-ltb 0 (getD (w .run .left) (least .who) 0) (h .1))
+            (is-busy (least .who) ∙ ap (ltb 0) z ∙ le-ltb 0 0 zero-le)
+
+        still-fair : Fair G (stateOf next)
+        still-fair = subst (Fair G) (sym (moved-state g A (w .run) (sound .agrees) (sound .past) d next moved)) (fair-leap G (stateOf (w .run)) (sound .fair) d)
+
+        fewer-ticks : sum (leftOf next) (g .n) + d ≤ sum (leftOf (w .run)) (g .n)
+        fewer-ticks =
+            let u = one-runs w sound some in
+            spend g A (w .run) (sound .agrees) (sound .past) d next moved (u .0) (u .1) (u .2) (enough (u .0) (u .2))
+
+        -- those that have run out of ticks are finished, and have their successors to tell
+        pub unsettled : Unsettled (g .edge) (g .edges) (w .waiting) (isIn busy) (isIn (w .behind)) (isIn over)
+        unsettled = record {
+          long = sound .settled .long;
+          counts = λ v h. sound .settled .counts v h ∙ ap (λ (p : ℕ → Bool). entering (g .edge) p (g .edges) v) (fun-ext same);
+          stand = sound .settled .stand .are;
+          apart = λ v t. ap₂ _||_ (busy-is v ∙ ap (λ (b : Bool). isIn (w .busy) v && not b) t ∙ and-false (isIn (w .busy) v))
+              (not-is-true (isIn (w .behind) v) (right-of (isIn (w .busy) v) (not (isIn (w .behind) v)) (sym (is-able v) ∙ able-on v (ran-on v t))));
+        }
+          where
+            ran-on : (v : ℕ) → isIn over v ≡ true → on v ≡ true
+            ran-on v t = left-of (on v) (eqb (getD left v 0) 0) (sym (is-over v) ∙ t)
+
+            moved-over : (b h o : Bool) → (o ≡ true → b ≡ true) → b || h ≡ ((b && not o) || h) || o
+            moved-over true true true f = refl
+            moved-over true true false f = refl
+            moved-over true false true f = refl
+            moved-over true false false f = refl
+            moved-over false h true f = absurd (clash (f refl) refl)
+            moved-over false h false f = sym (or-false h)
+
+            same : (u : ℕ) → isIn (w .busy) u || isIn (w .behind) u ≡ (isIn busy u || isIn (w .behind) u) || isIn over u
+            same u =
+                moved-over (isIn (w .busy) u) (isIn (w .behind) u) (isIn over u) (λ t. left-of (isIn (w .busy) u) (not (isIn (w .behind) u)) (sym (is-able u) ∙ able-on u (ran-on u t)))
+                ∙ ap (λ (b : Bool). (b || isIn (w .behind) u) || isIn over u) (sym (busy-is u))
+
+        module _ (hind new : Vset) (wait fins : List ℕ) (settled : Settled (g .edge) (g .edges) wait (isIn busy) hind)
+            (is-new : (v : ℕ) → isIn new v ≡ (isIn (w .busy) v || isIn (w .behind) v) && not (isIn busy v || isIn hind v))
+            (stamps : Stamped (w .finishes) (isIn new) (w .run .instant + d) fins) where
+          pub leapt : Leapt g w (record { run = next; busy = busy; behind = hind; waiting = wait; finishes = fins })
+          unfolding unfinished recordOf stateOf
+          leapt = record {
+            d = d;
+            some = omega (arith, on-has (least .who) (least .member) .1, least .value);
+            enough = enough;
+            moved = moved;
+            stamps = subst (λ (p : ℕ → Bool). Stamped (w .finishes) p (w .run .instant + d) fins) (fun-ext is-new) stamps;
+            fewer = fewer;
+            sound = record {
+              agrees = sound .agrees;
+              past = λ v l. omega (arith, left-after v, sound .past v l);
+              fair = still-fair;
+              in-time = omega (arith, fewer-ticks, sound .in-time);
+              is-busy = is-busy;
+              is-behind = settled-behind g A wait (isIn busy) hind settled;
+              settled = settled;
+              long-left = ap (λ (l : List ℕ). length l) is-left ∙ table-length (lowered (w .run .left) on d) 128;
+              long-finishes = stamps .long;
+            };
+          }

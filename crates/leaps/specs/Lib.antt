@@ -1,0 +1,4 @@
+-- What a whole run gives.
+pub mod Finishes
+-- How it is found.
+pub mod Leaps

@@ -1,0 +1,63 @@
+use mathlib.Core.Path.{_≡_}
+use Prim.Native.Nat.{_-_}
+use lib.ListN.{length}
+use borrow.Author.Needs.{needs}
+use Rattle.print.proofs.put_words.Statement.{statement}
+use Rattle.print.proofs.put_words.Tie as tie
+
+abbrev Inv-loop : tie.InvT-loop
+Inv-loop list out₀ n filled₀ i₀ out filled i = length out ≡ length out₀
+
+abbrev μ-loop : tie.MeasureT-loop
+μ-loop list out₀ n filled₀ i₀ out filled i = n - i
+
+loop-holds : tie.Need-loop-holds Inv-loop μ-loop
+loop-holds c = search needs
+
+mul-of-word : tie.Need-mul-of-word Inv-loop μ-loop
+mul-of-word c = search needs
+
+shared-slice-read-of-word : tie.Need-shared-slice-read-of-word Inv-loop μ-loop
+shared-slice-read-of-word c = search needs
+
+of-word-requires : tie.Need-of-word-requires Inv-loop μ-loop
+of-word-requires c κs = search needs
+
+put-field-requires : tie.Need-put-field-requires Inv-loop μ-loop
+put-field-requires c κs = search needs
+
+add-i : tie.Need-add-i Inv-loop μ-loop
+add-i c = search needs
+
+loop-less : tie.Need-loop-less Inv-loop μ-loop
+loop-less c = search needs
+
+loop-again : tie.Need-loop-again Inv-loop μ-loop
+loop-again c = search needs
+
+flush-requires : tie.Need-flush-requires Inv-loop μ-loop
+flush-requires c κs = search needs
+
+same-length : tie.Need-same-length Inv-loop μ-loop
+same-length c = search needs
+
+returns : tie.Need-returns Inv-loop μ-loop
+returns c = search needs
+
+pub put-words-spec : {M : Type 1} → statement M
+put-words-spec =
+    tie.close
+    (tie.spec
+    Inv-loop
+    μ-loop
+    loop-holds
+    mul-of-word
+    shared-slice-read-of-word
+    of-word-requires
+    put-field-requires
+    add-i
+    loop-less
+    loop-again
+    flush-requires
+    same-length
+    returns)

@@ -1,0 +1,4 @@
+-- Laws of the reader.
+pub mod Scan
+pub mod Taking
+pub mod Outcomes

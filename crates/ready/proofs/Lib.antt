@@ -1,0 +1,4 @@
+-- Laws that belong to no one function.
+pub mod Ancestors
+pub mod Standing
+pub mod Outcomes

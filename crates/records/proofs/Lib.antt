@@ -1,0 +1,3 @@
+-- Laws of the records.
+pub mod Passing
+pub mod Outcomes

@@ -1,0 +1,26 @@
+-- No public contract of this crate leaves a choice.
+use mathlib.Core.Path.{_≡_, refl, sym, _∙_}
+use Rattle.outcome.specs.OneOutcome.{OneOutcome}
+use Rattle.vset.proofs.Same.{same-set}
+use Rattle.remains.proofs.lower as lower
+use Rattle.remains.proofs.lower.Reads as lower-reads
+use Rattle.remains.proofs.within as within
+use Rattle.remains.proofs.within.Reads as within-reads
+use Rattle.remains.proofs.total as total
+use Rattle.remains.proofs.total.Reads as total-reads
+use Rattle.remains.proofs.in_time as in-time
+use Rattle.remains.proofs.in_time.Reads as in-time-reads
+
+pub lower-one : OneOutcome lower.ended lower-reads.Pre lower-reads.Post
+lower-one κs a r r′ ws ws′ pre p q =
+    let e : ws .0 ≡ ws′ .0 = p .0 ∙ sym (q .0) in
+    (same-set r r′ _ (rw e at (p .1)) (q .1), λ i. (e i, ws .1))
+
+pub within-one : OneOutcome within.ended within-reads.Pre within-reads.Post
+within-one κs a r r′ ws ws′ pre p q = (p ∙ sym q, refl)
+
+pub total-one : OneOutcome total.ended total-reads.Pre total-reads.Post
+total-one κs a r r′ ws ws′ pre p q = (p ∙ sym q, refl)
+
+pub in-time-one : OneOutcome in-time.ended in-time-reads.Pre in-time-reads.Post
+in-time-one κs a r r′ ws ws′ pre p q = (p ∙ sym q, refl)

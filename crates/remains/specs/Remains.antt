@@ -1,0 +1,27 @@
+-- For our own layers alone: no contract for callers and no claim cites this file.
+--
+-- The remaining ticks as a list, place by place, and a state of the model some ticks later.
+--
+--   place l v          what stands at v
+--   lowered l p d v    what is left of v after d ticks, where p says who runs
+--   noMore l m v       what stands at v in l is at most what stands there in m
+--   after p d s        the state d ticks later, where the vertices of p run in each
+use mathlib.Core.Bool.{Bool, _&&_}
+use mathlib.Core.List.{List}
+use Prim.Native.Nat.{ℕ, _-_}
+use lib.Dec.{ltb, leb}
+use lib.ListN.{getD}
+use Rattle.model.specs.Places.{pick}
+use Rattle.model.specs.ListSchedule.{State}
+
+abbrev pub place : List ℕ → ℕ → ℕ
+place l v = getD l v 0
+
+unfoldable pub lowered : List ℕ → (ℕ → Bool) → ℕ → ℕ → ℕ
+lowered l p d v = getD l v 0 - pick (p v) d 0
+
+unfoldable pub noMore : List ℕ → List ℕ → ℕ → Bool
+noMore l m v = leb (getD l v 0) (getD m v 0)
+
+unfoldable pub after : (ℕ → Bool) → ℕ → State → State
+after p d s = record { rest = λ v. s .rest v - pick (p v) d 0; ran = λ v. p v && ltb 0 (s .rest v - pick (p v) d 0) }

@@ -1,0 +1,3 @@
+-- Laws of the rows.
+pub mod Rows
+pub mod Outcomes
