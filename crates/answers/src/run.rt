@@ -1,0 +1,45 @@
+// `plan run FILE [TIMES]`: the finish, and each stage's finish instant.
+use graph::Refusal;
+use say::names::Names;
+use schedule::Played;
+
+// The argument that names the times.
+pub const TIMES: usize = 3;
+
+// So many times, and where in their text each one starts and ends. A graph has 128 stages at most: of more times only that there are more matters.
+pub struct Times {
+    pub n: usize,
+    pub ticks: [u32; 129],
+    pub start: [usize; 129],
+    pub end: [usize; 129],
+}
+
+// What the text of times has wrong where they are refused.
+fn reason(said: &[u8], times: Times, stages: usize, r: Refusal) -> bool {
+    if r.number != 14 {
+        return say::fault::counted(TIMES, times.n, stages);
+    }
+    let v = (r.place % 128) as usize;
+    say::fault::said(TIMES, said, say::fault::TIME, times.start[v], times.end[v])
+}
+
+fn front(list: &[u32], n: usize) -> &[u32] {
+    if n <= list.len() { &list[..n] } else { list }
+}
+
+// The run of a file of so many stages, with times that the text `said` gave.
+pub fn answer(t: &[u8], names: Names, stages: usize, file: &[u8], said: &[u8], times: Times) -> u8 {
+    let ticks = times.ticks;
+    let mut list = [0u32; 128];
+    let played = schedule::run(file, front(&ticks, times.n), &mut list);
+    match played {
+        Played::Finish(f) => {
+            let written = say::run::lines(t, names, f.0, front(&list, stages));
+            input::status(written, input::ANSWER)
+        }
+        Played::Refused(r) => {
+            let first = say::out::refused(r);
+            input::status(first & reason(said, times, stages, r), input::NO)
+        }
+    }
+}

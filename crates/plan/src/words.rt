@@ -1,0 +1,136 @@
+// The words of the command: a row for each in `number` and in `answered`, and a line in `say::help`.
+ghost use Rattle.graph.specs.Model.{AcceptedGraph};
+use crate::cut;
+use crate::given;
+use crate::run;
+use graph::Answer;
+use graph::Graph;
+use say::names::Names;
+
+const SHEET: u8 = 0;
+
+const RUN: u8 = 1;
+
+const RUN_TIMED: u8 = 2;
+
+const GRAPH: u8 = 3;
+
+const TEXT: u8 = 4;
+
+const HELP: u8 = 5;
+
+const VERSION: u8 = 6;
+
+const FILE: u8 = 7;
+
+const UNKNOWN: u8 = 8;
+
+// Which word stands first, where there are as many arguments as it takes, the command's own name among them.
+fn number(word: &[u8], n: usize) -> u8 {
+    if cut::equal(word, b"sheet") {
+        return if n == 3 { SHEET } else { UNKNOWN };
+    }
+    if cut::equal(word, b"run") {
+        return if n == 3 {
+            RUN
+        } else if n == 4 {
+            RUN_TIMED
+        } else {
+            UNKNOWN
+        };
+    }
+    if cut::equal(word, b"graph") {
+        return if n == 3 { GRAPH } else { UNKNOWN };
+    }
+    if cut::equal(word, b"text") {
+        return if n == 3 { TEXT } else { UNKNOWN };
+    }
+    if n != 2 {
+        return UNKNOWN;
+    }
+    alone(word)
+}
+
+// The same for words that stand alone. Any other is a file, but for what looks like an option.
+fn alone(word: &[u8]) -> u8 {
+    if cut::equal(word, b"help") | cut::equal(word, b"--help") | cut::equal(word, b"-h") {
+        return HELP;
+    }
+    if cut::equal(word, b"version") | cut::equal(word, b"--version") {
+        return VERSION;
+    }
+    if (cut::byte(word, 0) == b'-') & (word.len() > 1) {
+        return UNKNOWN;
+    }
+    FILE
+}
+
+// What is said of an accepted file, its graph, and the bytes that gave it.
+fn answered(word: u8, t: &[u8], names: Names, g: Graph, file: &[u8]) -> u8
+    requires { ⌜ AcceptedGraph g ⌝ }
+{
+    match word {
+        1 => run::full(t, names, g, file),
+        2 => run::timed(t, names, g, file),
+        3 => answers::text::file(file),
+        4 => answers::text::answer(t, names, g),
+        _ => answers::sheet::answer(t, names, g),
+    }
+}
+
+// What is said of a file. The one place that calls the reader: a file is read and judged once, and refused here or not at all.
+fn taken(word: u8, t: &[u8], names: Names, file: &[u8]) -> u8 {
+    let taken = reader::read(file);
+    let answer = taken.answer;
+    match answer {
+        Answer::Refused(r) => input::status(say::out::refused(r), input::NO),
+        Answer::Accepted => {
+            let g = taken.graph;
+            answered(word, t, names, g, file)
+        }
+    }
+}
+
+// What is said of the bytes that argument k names.
+fn judged(word: u8, k: usize, t: &[u8]) -> u8 {
+    let mut room = [0u8; 9304];
+    let made = given::file(k, t, &mut room);
+    if made.status != input::ANSWER {
+        return made.status;
+    }
+    let names = made.names;
+    taken(word, t, names, cut::part(&room, 0, made.n))
+}
+
+// What is said of what argument k names.
+fn read(word: u8, k: usize) -> u8 {
+    let mut space = [0u8; 65537];
+    let got = input::read(k, &mut space);
+    if !got.good {
+        return input::TROUBLE;
+    }
+    judged(word, k, cut::part(&space, 0, got.n))
+}
+
+fn row(word: u8) -> u8 {
+    if word == UNKNOWN {
+        return input::wrong(b"not a word of the command, or not so many words");
+    }
+    if word == HELP {
+        return input::status(say::help::page(), input::ANSWER);
+    }
+    if word == VERSION {
+        return input::status(say::help::version(), input::ANSWER);
+    }
+    if (word == RUN_TIMED) & input::is_standard(2) & input::is_standard(3) {
+        return input::wrong(b"standard input can't be the graph and the times");
+    }
+    read(word, if word == FILE { 1 } else { 2 })
+}
+
+pub(crate) fn answer() -> u8 {
+    let n = os::arg_count();
+    let mut space = io::buffer();
+    let long = os::arg(1, &mut space);
+    row(number(&space[..long], n))
+}

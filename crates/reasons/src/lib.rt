@@ -1,0 +1,135 @@
+// Which line of a board text a refusal is about, and how it is said. Whether it could be written no contract can say.
+ghost use Prim.Native.Nat.{_≤_, _<_};
+use graph::Refusal;
+use say::fault;
+use say::names::Names;
+
+fn least(a: usize, b: usize) -> usize
+    ensures { λ r. ⌜ (r ≤ a) × (r ≤ b) ⌝ }
+{
+    if a < b { a } else { b }
+}
+
+fn from(edge: u16) -> usize
+    ensures { λ r. ⌜ r < 128 ⌝ }
+{
+    (edge / 256 % 128) as usize
+}
+
+fn to(edge: u16) -> usize
+    ensures { λ r. ⌜ r < 128 ⌝ }
+{
+    (edge % 128) as usize
+}
+
+// The stage that an edge leads to, or the one that it leads from.
+fn side(edge: u16, entered: bool) -> usize
+    ensures { λ r. ⌜ r < 128 ⌝ }
+{
+    if entered { to(edge) } else { from(edge) }
+}
+
+// Marks where each edge from v, and from what is marked, leads; whether any mark is new.
+fn sweep(edge: &[u16; 1024], n: usize, v: usize, marks: &mut [u8; 128]) -> bool {
+    let mut grown = false;
+    let end = least(n, 1024);
+    for i in 0..end {
+        let u = from(edge[i]);
+        let w = to(edge[i]);
+        if ((u == v) | (marks[u] != 0)) & (marks[w] == 0) {
+            marks[w] = 1;
+            grown = true;
+        }
+    }
+    grown
+}
+
+// Whether edges lead from v back to v.
+fn comes_back(edge: &[u16; 1024], n: usize, v: usize) -> bool {
+    let mut marks = [0u8; 128];
+    for i in 0..128usize {
+        if !sweep(edge, n, v, &mut marks) {
+            return marks[v % 128] != 0;
+        }
+    }
+    marks[v % 128] != 0
+}
+
+// The first stage that lies on a cycle.
+fn on_cycle(edge: &[u16; 1024], n: usize) -> usize {
+    for v in 0..128 {
+        if comes_back(edge, n, v) {
+            return v;
+        }
+    }
+    0
+}
+
+// The stages that an edge leads to, or those that one leads from, marked.
+fn ends(edge: &[u16; 1024], n: usize, entered: bool) -> [u8; 128] {
+    let mut marks = [0u8; 128];
+    let end = least(n, 1024);
+    for i in 0..end {
+        let v = side(edge[i], entered);
+        marks[v] = 1;
+    }
+    marks
+}
+
+// The second of the first n stages that are not marked; n where there is none.
+fn second(marks: [u8; 128], n: usize) -> usize {
+    let mut seen = false;
+    let end = least(n, 128);
+    for v in 0..end {
+        if marks[v] == 0 {
+            if seen {
+                return v;
+            }
+            seen = true;
+        }
+    }
+    n
+}
+
+// A second stage that waits for none, or else a second one that none waits for.
+fn apart(k: usize, t: &[u8], names: Names, edge: &[u16; 1024], n: usize) -> bool {
+    let first = second(ends(edge, n, true), names.stages);
+    if first < names.stages {
+        return fault::said_stage(k, t, names, fault::SECOND_START, first);
+    }
+    let last = second(ends(edge, n, false), names.stages);
+    fault::said_stage(k, t, names, fault::SECOND_END, last)
+}
+
+// How far a place is past a count; 0 where it is not.
+fn past(place: usize, count: usize) -> usize {
+    if count <= place { place - count } else { 0 }
+}
+
+// The stage that the edge i leads to.
+fn waiting(edge: &[u16; 1024], i: usize) -> usize {
+    if i < 1024 { to(edge[i]) } else { 0 }
+}
+
+// The line of the text, which argument k names, that the writer's refusal of its n edges and its other lists is about. No other number can be: the
+// text's own faults come first.
+pub fn said(k: usize, t: &[u8], names: Names, edge: &[u16; 1024], n: usize, r: Refusal) -> bool {
+    let number = r.number;
+    let record = r.place as usize;
+    let stage = past(record, names.kinds);
+    match number {
+        4 => fault::said(k, t, fault::KINDS_NONE, t.len(), t.len()),
+        5 => fault::said_kind(k, t, names, fault::CORES, record),
+        6 => fault::said(k, t, fault::STAGES_NONE, t.len(), t.len()),
+        7 => fault::said_stage(k, t, names, fault::WCET, stage),
+        9 => fault::said_stage(
+            k,
+            t,
+            names,
+            fault::ITSELF,
+            waiting(edge, past(stage, names.stages)),
+        ),
+        11 => fault::said_stage(k, t, names, fault::CYCLE, on_cycle(edge, n)),
+        _ => apart(k, t, names, edge, n),
+    }
+}

@@ -1,0 +1,30 @@
+// What `plan help` and `plan version` say: a line for each word.
+use crate::out;
+
+pub fn page() -> bool {
+    out::text(
+        b"plan: by which tick is the whole frame done, whatever the schedule?
+
+  plan FILE              the sheet; for a board text also its path by names
+  plan sheet FILE        the same
+  plan run FILE [TIMES]  a run: its finish, and each stage's finish instant
+  plan graph FILE        the graph file of a board text
+  plan text FILE         the board text of a graph file
+  plan help              this page
+  plan version           the version
+  plan install DIR       puts the command, the library and the header there
+
+FILE is a graph file or a board text (docs/FILE.md, docs/BOARD.md); - is
+standard input. TIMES is a text of lines NAME TICKS, or of a number for each
+stage; without it each stage takes its WCET.
+
+Exit status: 0 an answer; 1 the planner says no, and standard output says why:
+the graph is refused, or a text is at fault; 2 trouble, and standard error
+says which.
+",
+    )
+}
+
+pub fn version() -> bool {
+    out::text(b"plan 1.0\n")
+}

@@ -1,0 +1,20 @@
+// The finish of a run, and each stage's finish instant.
+use crate::names;
+use crate::names::Names;
+use crate::out;
+
+fn wide(x: u32) -> u64 {
+    x as u64
+}
+
+fn stage(t: &[u8], of: Names, v: usize, instant: u32) -> bool {
+    names::name(names::of_stage(t, of, v), b"", v) & out::field(wide(instant)) & out::end()
+}
+
+pub fn lines(t: &[u8], of: Names, finish: u64, instants: &[u32]) -> bool {
+    let mut written = out::text(b"finish") & out::field(finish) & out::end();
+    for v in 0..instants.len() {
+        written = written & stage(t, of, v, instants[v]);
+    }
+    written
+}

@@ -1,0 +1,104 @@
+//! Board texts through `plan graph`, against what docs/BOARD.md says of them.
+//!
+//!   boards COUNT SEED COMMAND..     the command is the program `plan`, with its loader
+mod generate;
+mod reference;
+
+use generate::{board, damaged, large, Random};
+use reference::{given, Given};
+use std::collections::BTreeMap;
+use std::io::{Read, Write};
+use std::process::{exit, Command, Stdio};
+
+/// What the program wrote to standard output, and its status digit, which comes by descriptor 3.
+fn asked(command: &[String], word: &str, input: &[u8]) -> (Vec<u8>, Vec<u8>) {
+    let mut child = Command::new("/bin/sh")
+        .args(["-c", "exec \"$@\" 3>&2 2>/dev/null", "sh"])
+        .args(command)
+        .args([word, "-"])
+        .stdin(Stdio::piped())
+        .stdout(Stdio::piped())
+        .stderr(Stdio::piped())
+        .spawn()
+        .expect("the program starts");
+    // the program reads no more than it needs of a long text
+    let _ = child.stdin.take().unwrap().write_all(input);
+    let (mut out, mut status) = (vec![], vec![]);
+    child.stdout.take().unwrap().read_to_end(&mut out).unwrap();
+    child.stderr.take().unwrap().read_to_end(&mut status).unwrap();
+    child.wait().unwrap();
+    (out, status)
+}
+
+fn text_of(r: &mut Random) -> Vec<u8> {
+    match r.below(10) {
+        0..=3 => board(r),
+        4..=7 => {
+            let mut text = board(r);
+            for _ in 0..1 + r.below(3) {
+                text = damaged(r, text);
+            }
+            text
+        }
+        _ => large(r),
+    }
+}
+
+fn differs(i: usize, text: &[u8], what: &str, is: &[u8], should: &[u8]) -> ! {
+    let kept = std::env::temp_dir().join("board.txt");
+    let _ = std::fs::write(&kept, text);
+    eprintln!("text {i} ({}): {what}", kept.display());
+    eprintln!("  is     {:?}", String::from_utf8_lossy(is));
+    eprintln!("  should {:?}", String::from_utf8_lossy(should));
+    exit(1);
+}
+
+fn main() {
+    let words: Vec<String> = std::env::args().skip(1).collect();
+    let count: usize = words[0].parse().expect("a number of texts");
+    let mut r = Random(words[1].parse().expect("a seed"));
+    let command = &words[2..];
+    let mut rows: BTreeMap<&str, usize> = BTreeMap::new();
+    for i in 0..count {
+        let text = text_of(&mut r);
+        // a text has no byte 0: with one the bytes are a graph file
+        if text.contains(&0) {
+            continue;
+        }
+        let (out, status) = asked(command, "graph", &text);
+        let (row, should, digit): (&str, Vec<u8>, &[u8]) = match given("-", &text) {
+            Given::File(bytes) => ("accepted", bytes, b"0"),
+            Given::No { row, said } => (row, said.chars().map(|c| c as u8).collect(), b"1"),
+        };
+        *rows.entry(row).or_default() += 1;
+        if out != should {
+            differs(i, &text, "another answer", &out, &should);
+        }
+        if status != digit {
+            differs(i, &text, "another status", &status, digit);
+        }
+        // the file's text, and the text's own: both give the file again
+        if digit == b"0" && i % 8 == 0 {
+            for from in [&out, &text] {
+                let (again, _) = asked(command, "text", from);
+                let (back, _) = asked(command, "graph", &again);
+                if back != out {
+                    differs(i, &text, "text and back", &back, &out);
+                }
+            }
+        }
+    }
+    let seen: Vec<String> = rows.iter().map(|(row, n)| format!("{row} {n}")).collect();
+    eprintln!("{count} board texts, no difference: {}", seen.join(", "));
+    let wanted = [
+        "11", "12 end", "12 start", "4", "5", "6", "7", "9", "accepted", "byte", "extra", "large", "long line", "long name", "long text",
+        "many", "many waits", "missing", "no number", "no stage", "no type", "twice", "waits twice",
+    ];
+    // few texts need not reach everything
+    for row in wanted {
+        if count >= 2000 && !rows.contains_key(row) {
+            eprintln!("no text reached: {row}");
+            exit(1);
+        }
+    }
+}
