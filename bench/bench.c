@@ -18,6 +18,8 @@ int clock_gettime(int, struct moment *);
 #define ROOM 9304 /* of a longer file only that it is longer matters */
 #define ROUNDS 40
 #define ROUND_NS 1000000 /* of each side in each round, about */
+#define ALTERED 1000 /* times, the files of a row in turn */
+#define TURNS 64 /* numberings at random of one graph */
 
 struct input {
     const char *name;
@@ -31,7 +33,15 @@ struct input {
     /* Every vertex takes its WCET. Where a file has no vertex, or too many, the times are as many as some other file's. */
     uint32_t times[VERTICES];
     size_t n;
-    PlannerRecord half; /* halfway through that run, where the input is timed */
+    PlannerRecord half; /* halfway through that run, where there is one */
+};
+
+/* A row of the table: one input, or one graph in several numberings, which take turns while a call is timed. A file that is timed over and
+   over is learnt by heart: the processor comes to foresee its every branch, as it can't with a file that is new to it. */
+struct row {
+    const struct input *inputs;
+    size_t many;
+    double goal; /* for proved / plain of the calls that have one */
 };
 
 /* Answers. */
@@ -115,7 +125,9 @@ static int differ_run_with(const struct input *in, const uint32_t *times, size_t
     return !same(a.number, a.place, b.number, b.place) || a.finish != b.finish || memcmp(one, other, sizeof one);
 }
 
-static uint64_t seed = 88172645463325252u;
+#define SEED 88172645463325252u
+
+static uint64_t seed = SEED;
 
 static uint32_t below(uint32_t n) {
     seed ^= seed << 13;
@@ -173,18 +185,21 @@ static int differ_any(const struct input *in) {
 
 static void take_lists(struct input *in);
 
-/* The file as it is; then so many times with bytes altered or its end cut off, so that every number occurs. */
-static int differ_altered(struct input *in, int many) {
+/* Each file of a row as it is; then, in turn, with bytes altered or its end cut off, so that every number occurs. */
+static int differ_altered(const struct row *row) {
     static struct input altered;
-    int bad = differ_any(in);
-    for (int i = 0; i < many && !bad; i++) {
-        altered = *in;
+    int bad = 0;
+    for (size_t k = 0; k < row->many && !bad; k++)
+        bad = differ_any(&row->inputs[k]);
+    for (size_t i = 0; i < ALTERED && !bad; i++) {
+        altered = row->inputs[i % row->many];
+        uint32_t length = (uint32_t)altered.length;
         for (uint32_t left = 1 + below(2); left > 0; left--) {
-            uint8_t *byte = &altered.file[below((uint32_t)in->length)];
+            uint8_t *byte = &altered.file[below(length)];
             *byte = below(2) ? (uint8_t)below(256) : (uint8_t)(*byte ^ 1u << below(8));
         }
         if (below(16) == 0)
-            altered.length = below((uint32_t)in->length + 1);
+            altered.length = below(length + 1);
         take_lists(&altered);
         bad = differ_any(&altered);
     }
@@ -213,24 +228,32 @@ static void take_lists(struct input *in) {
     }
 }
 
-/* The lists and times of an input whose file stands. */
+/* The record halfway through the run in which every vertex takes its WCET. A vertex that has begun goes on to its end, so that the
+   finishes say where each one stands. Of a file that is refused the record says nothing. */
+static PlannerRecord halfway(const struct input *in) {
+    uint32_t finishes[VERTICES] = {0};
+    uint64_t half = plain_run(in->file, in->length, in->times, in->n, finishes, VERTICES).finish / 2;
+    PlannerRecord run = {.n = in->n, .instant = half};
+    for (size_t v = 0; v < in->n; v++) {
+        if (finishes[v] <= half)
+            continue;
+        run.left[v] = in->times[v];
+        if (finishes[v] - in->times[v] < half) {
+            run.left[v] = (uint32_t)(finishes[v] - half);
+            run.ran[v / 64] |= (uint64_t)1 << v % 64;
+        }
+    }
+    return run;
+}
+
+/* The lists, times and record of an input whose file stands. */
 static void complete(struct input *in) {
     take_lists(in);
     in->n = in->vertices < VERTICES ? in->vertices : VERTICES;
     memcpy(in->times, in->wcet, sizeof in->times);
     if (in->n == 0)
         in->n = 1;
-}
-
-/* The record halfway through the run in which every vertex takes its WCET; the plain side gets there sooner. */
-static void halfway(struct input *in) {
-    uint32_t finishes[VERTICES];
-    uint64_t finish = plain_run(in->file, in->length, in->times, in->n, finishes, VERTICES).finish;
-    struct plain_record run = plain_start(in->file, in->length, in->times, in->n).run;
-    while (run.instant < finish / 2)
-        run = plain_tick(run, in->file, in->length).run;
-    in->half = (PlannerRecord){.n = run.n, .instant = run.instant, .ran = {run.ran[0], run.ran[1]}};
-    memcpy(in->half.left, run.left, sizeof run.left);
+    in->half = halfway(in);
 }
 
 static int from_file(struct input *in, const char *name, const char *path) {
@@ -258,51 +281,91 @@ static void put(struct input *in, uint8_t tag, size_t number, size_t third, uint
         r[4 + i] = (uint8_t)(word >> 8 * i);
 }
 
-/* The deepest of the largest: 10 types, a path through all 128 vertices, and the shortest edges beside it, 1,024 in all. */
-static void deepest(struct input *in, const char *name) {
-    static uint8_t has[VERTICES][VERTICES];
-    size_t edges = 0;
-    for (size_t step = 1; edges < EDGES; step++)
-        for (size_t u = 0; u + step < VERTICES && edges < EDGES; u++, edges++)
-            has[u][u + step] = 1;
+/* The file of an input whose lists of types and vertices stand, with these edges. */
+static void from_lists(struct input *in, const char *name, uint8_t has[VERTICES][VERTICES]) {
     in->name = name;
     in->length = 0;
-    for (size_t s = 0; s < KINDS; s++)
-        put(in, 0x54, s, 1 + 7 * s % 16, 0);
-    for (size_t v = 0; v < VERTICES; v++)
-        put(in, 0x56, v, v % KINDS, (uint32_t)(1 + v * v % 1009));
-    for (size_t u = 0; u < VERTICES; u++)
-        for (size_t v = 0; v < VERTICES; v++)
+    for (size_t s = 0; s < in->kinds; s++)
+        put(in, 0x54, s, in->cores[s], 0);
+    for (size_t v = 0; v < in->vertices; v++)
+        put(in, 0x56, v, in->kind[v], in->wcet[v]);
+    for (size_t u = 0; u < in->vertices; u++)
+        for (size_t v = 0; v < in->vertices; v++)
             if (has[u][v])
                 put(in, 0x45, u, v, 0);
     complete(in);
 }
 
-/* Against the edges, where they went upwards; and from the lowest to the highest and back, so that along a path every other edge goes down. */
-static size_t against(size_t v, size_t n) { return n - 1 - v; }
-static size_t to_and_fro(size_t v, size_t n) { return v % 2 == 0 ? v / 2 : n - 1 - v / 2; }
+/* The deepest of the largest: 10 types, a path through all 128 vertices, and the shortest edges beside it, 1,024 in all. */
+static void deepest(struct input *in, const char *name) {
+    uint8_t has[VERTICES][VERTICES] = {{0}};
+    for (size_t step = 1, edges = 0; edges < EDGES; step++)
+        for (size_t u = 0; u + step < VERTICES && edges < EDGES; u++, edges++)
+            has[u][u + step] = 1;
+    in->kinds = KINDS;
+    in->vertices = VERTICES;
+    for (size_t s = 0; s < KINDS; s++)
+        in->cores[s] = (uint8_t)(1 + 7 * s % 16);
+    for (size_t v = 0; v < VERTICES; v++) {
+        in->kind[v] = (uint8_t)(v % KINDS);
+        in->wcet[v] = (uint32_t)(1 + v * v % 1009);
+    }
+    from_lists(in, name, has);
+}
 
-/* The same graph with other numbers for its vertices. */
-static void renumbered(struct input *in, const char *name, const struct input *up, size_t (*as)(size_t, size_t)) {
-    uint8_t has[VERTICES][VERTICES] = {{0}}, was[VERTICES];
-    size_t kinds = 0, n = up->n;
-    while (up->file[8 * kinds] == 0x54)
-        kinds++;
+/* The widest: one type with 16 cores, a source, 126 vertices beside each other, and a sink. */
+static void widest(struct input *in, const char *name) {
+    uint8_t has[VERTICES][VERTICES] = {{0}};
+    for (size_t v = 1; v < VERTICES - 1; v++)
+        has[0][v] = has[v][VERTICES - 1] = 1;
+    in->kinds = 1;
+    in->vertices = VERTICES;
+    in->cores[0] = 16;
+    seed = SEED;
+    for (size_t v = 0; v < VERTICES; v++) {
+        in->kind[v] = 0;
+        in->wcet[v] = 1 + below(1000);
+    }
+    from_lists(in, name, has);
+}
+
+/* New numbers: against the edges, where they went upwards; from the lowest to the highest and back, so that along a path every other edge
+   goes down; and any. */
+static void against(uint8_t *as, size_t n) {
     for (size_t v = 0; v < n; v++)
-        was[as(v, n)] = (uint8_t)v;
-    for (size_t k = kinds + n; k < up->length / 8; k++)
-        has[as(up->file[8 * k + 1], n)][as(up->file[8 * k + 2], n)] = 1;
-    in->name = name;
-    in->length = 0;
-    for (size_t s = 0; s < kinds; s++)
-        put(in, 0x54, s, up->file[8 * s + 2], 0);
+        as[v] = (uint8_t)(n - 1 - v);
+}
+
+static void to_and_fro(uint8_t *as, size_t n) {
     for (size_t v = 0; v < n; v++)
-        put(in, 0x56, v, up->file[8 * (kinds + was[v]) + 2], wcet_at(up, kinds + was[v]));
-    for (size_t u = 0; u < n; u++)
-        for (size_t v = 0; v < n; v++)
-            if (has[u][v])
-                put(in, 0x45, u, v, 0);
-    complete(in);
+        as[v] = (uint8_t)(v % 2 == 0 ? v / 2 : n - 1 - v / 2);
+}
+
+static void at_random(uint8_t *as, size_t n) {
+    for (size_t v = 0; v < n; v++) {
+        size_t other = below((uint32_t)v + 1);
+        as[v] = as[other];
+        as[other] = (uint8_t)v;
+    }
+}
+
+/* The same graph with other numbers for its vertices, so many times. The seed is set, so that a row is the same whatever other rows there are. */
+static void renumbered(struct input *inputs, size_t many, const char *name, const struct input *up, void (*number)(uint8_t *, size_t)) {
+    seed = SEED;
+    for (struct input *in = inputs; in < inputs + many; in++) {
+        uint8_t has[VERTICES][VERTICES] = {{0}}, as[VERTICES] = {0};
+        number(as, up->vertices);
+        in->kinds = up->kinds;
+        in->vertices = up->vertices;
+        memcpy(in->cores, up->cores, sizeof in->cores);
+        for (size_t v = 0; v < up->vertices; v++) {
+            in->kind[as[v]] = up->kind[v];
+            in->wcet[as[v]] = up->wcet[v];
+        }
+        for (size_t i = 0; i < up->edges; i++)
+            has[as[up->edge[i] >> 8]][as[up->edge[i] & 255]] = 1;
+        from_lists(in, name, has);
+    }
 }
 
 /* The limits of document 01 from both sides, and the examples of document 000: compared, not timed. */
@@ -406,88 +469,148 @@ static const struct {
     const char *name;
     work proved, plain;
     int (*differ)(const struct input *);
+    int has_goal;
 } calls[] = {
-    {"read", proved_read, c_read, differ_read},     {"write", proved_write, c_write, differ_write}, {"bounds", proved_bounds, c_bounds, differ_bounds},
-    {"path", proved_path, c_path, differ_path},     {"start", proved_start, c_start, differ_start}, {"tick", proved_tick, c_tick, differ_tick},
-    {"run", proved_run, c_run, differ_run},
+    {"read", proved_read, c_read, differ_read, 1},         {"write", proved_write, c_write, differ_write, 0},
+    {"bounds", proved_bounds, c_bounds, differ_bounds, 1}, {"path", proved_path, c_path, differ_path, 1},
+    {"start", proved_start, c_start, differ_start, 0},     {"tick", proved_tick, c_tick, differ_tick, 0},
+    {"run", proved_run, c_run, differ_run, 1},
 };
+#define CALLS (sizeof calls / sizeof calls[0])
 
-static double time_of(work w, const struct input *in, uint64_t times) {
+/* Of so many calls for each file of the row, in turn. */
+static double time_of(work w, const struct row *row, uint64_t times) {
     uint64_t begin = now();
     for (uint64_t i = 0; i < times; i++)
-        w(in);
-    return (double)(now() - begin) / (double)times;
+        for (size_t k = 0; k < row->many; k++)
+            w(&row->inputs[k]);
+    return (double)(now() - begin);
 }
 
 /* As often as makes a round. */
-static uint64_t often(work w, const struct input *in) {
+static uint64_t often(work w, const struct row *row) {
     uint64_t times = 1;
-    while (time_of(w, in, times) * (double)times < ROUND_NS / 2)
+    while (time_of(w, row, times) < ROUND_NS / 2)
         times *= 2;
     return times;
 }
 
 /* Nothing is timed but answers that are equal and no refusals. */
-static int compare(const struct input *in, int ratios_only) {
-    for (size_t i = 0; i < sizeof calls / sizeof calls[0]; i++) {
-        if (calls[i].differ(in))
-            return differ(in, calls[i].name);
-        if (calls[i].proved(in) != 0 || calls[i].plain(in) != 0) {
-            printf("%s: %s is refused, so that its time says nothing\n", in->name, calls[i].name);
-            return 1;
-        }
-        uint64_t proved_times = often(calls[i].proved, in), plain_times = often(calls[i].plain, in);
+static int unfit(const struct input *in, size_t call) {
+    if (calls[call].differ(in))
+        return differ(in, calls[call].name);
+    if (calls[call].proved(in) == 0 && calls[call].plain(in) == 0)
+        return 0;
+    printf("%s: %s is refused, so that its time says nothing\n", in->name, calls[call].name);
+    return 1;
+}
+
+/* A line of the table for each call. The ratios are kept for the goals. */
+static int compare(const struct row *row, int ratios_only, double *ratios) {
+    for (size_t i = 0; i < CALLS; i++) {
+        for (size_t k = 0; k < row->many; k++)
+            if (unfit(&row->inputs[k], i))
+                return 1;
+        uint64_t proved_times = often(calls[i].proved, row), plain_times = often(calls[i].plain, row);
         double proved = 1e18, plain = 1e18;
         for (int round = 0; round < ROUNDS; round++) {
-            double a = time_of(calls[i].proved, in, proved_times), b = time_of(calls[i].plain, in, plain_times);
+            double a = time_of(calls[i].proved, row, proved_times), b = time_of(calls[i].plain, row, plain_times);
             proved = a < proved ? a : proved;
             plain = b < plain ? b : plain;
         }
+        proved /= (double)(proved_times * row->many);
+        plain /= (double)(plain_times * row->many);
+        ratios[i] = proved / plain;
         if (ratios_only)
-            printf("| %s | %s | %.2f |\n", in->name, calls[i].name, proved / plain);
+            printf("| %s | %s | %.2f |\n", row->inputs->name, calls[i].name, ratios[i]);
         else
-            printf("| %s | %s | %.2f | %.2f | %.2f |\n", in->name, calls[i].name, proved / plain, proved / 1e3, plain / 1e3);
+            printf("| %s | %s | %.2f | %.2f | %.2f |\n", row->inputs->name, calls[i].name, ratios[i], proved / 1e3, plain / 1e3);
     }
     return 0;
 }
 
-#define INPUTS 8
+/* Says which calls are above the goal, in the two digits that the table shows; whether some are. */
+static int missed(const struct row *row, const double *ratios) {
+    int some = 0;
+    printf("| %s | %g |", row->inputs->name, row->goal);
+    for (size_t i = 0; i < CALLS; i++)
+        if (calls[i].has_goal && ratios[i] >= row->goal + 0.005) {
+            printf("%s %s %.2f", some ? "," : " no:", calls[i].name, ratios[i]);
+            some = 1;
+        }
+    printf(some ? " |\n" : " yes |\n");
+    return some;
+}
 
-/* With an argument, ratios alone. */
-int main(int count, char **words) {
-    (void)words;
-    static struct input inputs[INPUTS];
-    if (from_file(&inputs[0], "case A", "samples/case-a.graph") || from_file(&inputs[1], "board", "samples/board.graph") ||
-        from_file(&inputs[2], "largest, upwards", "crates/cases/data/length-9296.graph"))
+/* The rows. */
+
+static struct input case_a, board, board_turns[TURNS], largest[3], largest_turns[TURNS], deep[3], deep_turns[TURNS], wide, wide_turns[TURNS];
+
+/* On four vertices what a call does whatever the graph, such as zeroing tables, is most of it. */
+#define GOAL_CASE_A 3
+#define GOAL 1.5
+
+static const struct row rows[] = {
+    {&case_a, 1, GOAL_CASE_A},
+    {&board, 1, GOAL},      {board_turns, TURNS, GOAL},
+    {&largest[0], 1, GOAL}, {&largest[1], 1, GOAL},     {&largest[2], 1, GOAL}, {largest_turns, TURNS, GOAL},
+    {&deep[0], 1, GOAL},    {&deep[1], 1, GOAL},        {&deep[2], 1, GOAL},    {deep_turns, TURNS, GOAL},
+    {&wide, 1, GOAL},       {wide_turns, TURNS, GOAL},
+};
+#define ROWS (sizeof rows / sizeof rows[0])
+
+static int make_inputs(void) {
+    if (from_file(&case_a, "case A", "samples/case-a.graph") || from_file(&board, "board", "samples/board.graph") ||
+        from_file(&largest[0], "largest, upwards", "crates/cases/data/length-9296.graph"))
         return 1;
-    renumbered(&inputs[3], "largest, against", &inputs[2], against);
-    renumbered(&inputs[4], "largest, to and fro", &inputs[2], to_and_fro);
-    deepest(&inputs[5], "deepest, upwards");
-    renumbered(&inputs[6], "deepest, against", &inputs[5], against);
-    renumbered(&inputs[7], "deepest, to and fro", &inputs[5], to_and_fro);
-    for (int i = 0; i < INPUTS; i++) {
-        if (differ_altered(&inputs[i], 1000))
+    deepest(&deep[0], "deepest, upwards");
+    widest(&wide, "wide");
+    renumbered(&largest[1], 1, "largest, against", &largest[0], against);
+    renumbered(&largest[2], 1, "largest, to and fro", &largest[0], to_and_fro);
+    renumbered(&deep[1], 1, "deepest, against", &deep[0], against);
+    renumbered(&deep[2], 1, "deepest, to and fro", &deep[0], to_and_fro);
+    renumbered(board_turns, TURNS, "board, at random", &board, at_random);
+    renumbered(largest_turns, TURNS, "largest, at random", &largest[0], at_random);
+    renumbered(deep_turns, TURNS, "deepest, at random", &deep[0], at_random);
+    renumbered(wide_turns, TURNS, "wide, at random", &wide, at_random);
+    return 0;
+}
+
+static int differ_anywhere(void) {
+    for (size_t i = 0; i < ROWS; i++)
+        if (differ_altered(&rows[i]))
             return 1;
-        halfway(&inputs[i]);
-    }
     for (size_t i = 0; i < CASES; i++) {
         static struct input in;
         if (from_file(&in, cases[i], cases[i]) || differ_any(&in))
             return 1;
     }
-    printf("equal answers: %d inputs, each as it is and altered 1000 times, and %d cases; numbers met:", INPUTS, (int)CASES);
+    printf("equal answers: %d inputs, those at random in %d numberings, each as it is and altered %d times, and %d cases; numbers met:", (int)ROWS, TURNS,
+           ALTERED, (int)CASES);
     for (int k = 0; k < 32; k++)
         if (met >> k & 1)
             printf(" %d", k);
     printf("\n\n");
-    if (met != ((uint32_t)1 << 17) - 1) {
-        printf("these should be 0 to 16\n");
+    if (met == ((uint32_t)1 << 17) - 1)
+        return 0;
+    printf("these should be 0 to 16\n");
+    return 1;
+}
+
+/* With the word `ratios`, ratios alone; with `goals`, also whether they are within the goals, and 1 where one isn't. */
+int main(int count, char **words) {
+    int ratios_only = count > 1 && words[1][0] == 'r', goals = count > 1 && words[1][0] == 'g', some = 0;
+    double ratios[ROWS][CALLS];
+    if (make_inputs() || differ_anywhere())
         return 1;
-    }
-    printf(count > 1 ? "| input | call | proved / plain |\n|---|---|---|\n"
-                     : "| input | call | proved / plain | proved, microseconds | plain, microseconds |\n|---|---|---|---|---|\n");
-    for (int i = 0; i < INPUTS; i++)
-        if (compare(&inputs[i], count > 1))
+    printf(ratios_only ? "| input | call | proved / plain |\n|---|---|---|\n"
+                       : "| input | call | proved / plain | proved, microseconds | plain, microseconds |\n|---|---|---|---|---|\n");
+    for (size_t i = 0; i < ROWS; i++)
+        if (compare(&rows[i], ratios_only, ratios[i]))
             return 1;
-    return 0;
+    if (goals)
+        printf("\n| input | goal | read, bounds, path and run within it |\n|---|---|---|\n");
+    for (size_t i = 0; goals && i < ROWS; i++)
+        some |= missed(&rows[i], ratios[i]);
+    return some;
 }

@@ -42,16 +42,18 @@
 
 #define PLANNER_PARTS_PER_TICK 720720
 
-/* The stack that a call needs, in bytes, with its answer and what it is handed by value. Measured over the requests of tests/, which reach
-   every limit and every refusal, and rounded up to pages of 4,096 bytes: no theorem bounds it. What a signal handler needs comes on top. */
-#define PLANNER_STACK_READ 24576
-#define PLANNER_STACK_WRITE 32768
-#define PLANNER_STACK_BOUNDS 24576
-#define PLANNER_STACK_PATH 24576
-#define PLANNER_STACK_START 16384
-#define PLANNER_STACK_TICK 24576
-#define PLANNER_STACK_TICK_IN_PLACE 24576
-#define PLANNER_STACK_RUN 24576
+/* The stack that a call needs, in bytes, with its answer and what it is handed by value: no call needs more than 16,384. Measured over the
+   requests of tests/, which reach every limit and every refusal, and rounded up to pages of 4,096 bytes with 512 to spare at the least: no
+   theorem bounds it, and docs/STACK.md has the measures. What a signal handler needs comes on top, and what the system's loader needs where
+   memcpy or memset is bound at its first call. */
+#define PLANNER_STACK_READ 16384
+#define PLANNER_STACK_WRITE 16384
+#define PLANNER_STACK_BOUNDS 12288
+#define PLANNER_STACK_PATH 12288
+#define PLANNER_STACK_START 12288
+#define PLANNER_STACK_TICK 16384
+#define PLANNER_STACK_TICK_IN_PLACE 16384
+#define PLANNER_STACK_RUN 12288
 
 #ifdef __cplusplus
 #define PLANNER_SIZE(type, size) static_assert(sizeof(type) == (size), "the library lays " #type " out otherwise")

@@ -161,16 +161,13 @@ static struct list take_room(size_t element)
     return room;
 }
 
-/* A run record travels as it lies in memory. */
-static PlannerRecord take_record(void)
+/* A run record travels as it lies in memory, and is lent as it came. */
+static PlannerRecord *take_record(void)
 {
-    PlannerRecord run = {0};
     struct list taken = take_list(1);
-    if (taken.length == sizeof run)
-        memcpy(&run, taken.at, sizeof run);
-    else
+    if (taken.length != sizeof(PlannerRecord))
         payload_good = 0;
-    return run;
+    return taken.at;
 }
 
 static int all_taken(void) { return payload_good && payload_left == 0; }
@@ -256,27 +253,28 @@ static void letter_s(void)
     record(&a.run);
 }
 
-static void letter_t(void)
+/* A tick in place, or one that is told as if it had been. */
+static void tell_tick(PlannerMoved (*tick)(PlannerRecord *, const uint8_t *, size_t))
 {
     struct list file = take_list(1);
-    PlannerRecord run = take_record();
+    PlannerRecord *run = take_record();
     if (!all_taken())
         return;
-    PlannerTick a = planner_tick(run, file.at, file.length);
+    PlannerMoved a = tick(run, file.at, file.length);
     reported(a.number, a.place, a.moved);
-    record(&a.run);
+    record(run);
 }
 
-static void letter_i(void)
+static PlannerMoved tick_by_value(PlannerRecord *run, const uint8_t *file, size_t file_length)
 {
-    struct list file = take_list(1);
-    PlannerRecord run = take_record();
-    if (!all_taken())
-        return;
-    PlannerMoved a = planner_tick_in_place(&run, file.at, file.length);
-    reported(a.number, a.place, a.moved);
-    record(&run);
+    PlannerTick a = planner_tick(*run, file, file_length);
+    *run = a.run;
+    return (PlannerMoved){a.number, a.place, a.moved};
 }
+
+static void letter_t(void) { tell_tick(tick_by_value); }
+
+static void letter_i(void) { tell_tick(planner_tick_in_place); }
 
 static void letter_x(void)
 {
@@ -306,6 +304,9 @@ static struct letter {
     {'X', letter_x, "planner_run", PLANNER_STACK_RUN, 0},
 };
 enum { LETTERS = sizeof letters / sizeof letters[0] };
+
+/* A plug-in gets a small stack: whatever the header says, no entry may take more than this. */
+enum { SMALL_STACK = 24576 };
 
 /* The requests. */
 
@@ -383,9 +384,10 @@ int main(int count, char **arguments)
     }
     for (size_t i = 0; i < LETTERS; i++) {
         struct letter *l = &letters[i];
-        if (stacks || l->taken > l->most)
+        int too_much = l->taken > l->most || l->taken > SMALL_STACK;
+        if (stacks || too_much)
             dprintf(stacks ? 1 : 2, "%s took %zu bytes of stack, planner.h says %zu\n", l->entry, l->taken, l->most);
-        above |= l->taken > l->most;
+        above |= too_much;
     }
     return above;
 }

@@ -22,7 +22,7 @@ fn front(list: &[u8], n: usize) -> &[u8] {
 fn lines(t: &[u8], names: Names, g: Graph, path: &[u8]) -> bool
     requires { ⌜ AcceptedGraph g ⌝ }
 {
-    let sheet = say::sheet::lines(bounds::accepted::figures(g), g, path);
+    let sheet = say::sheet::lines(bounds::figures(g), g, path);
     if names.stages == 0 {
         return sheet;
     }

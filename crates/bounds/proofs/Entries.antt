@@ -1,9 +1,9 @@
--- From the reader's value t of a file s, and from what was found for its graph, to the entries' answers.
-use mathlib.Core.Path.{_≡_, sym, ap, _∙_}
+-- From what the reader took of a file s, and from what was found for its graph, to the entries' answers.
+use mathlib.Core.Path.{_≡_, sym, _∙_}
 use mathlib.Core.List.{List}
-use Prim.Native.Nat.{ℕ, _≤_, _<_}
+use Prim.Native.Nat.{ℕ, _≤_}
 use native.Mathlib.Omega.{arith}
-use lib.ListN.{getD, length, drop, length-append}
+use lib.ListN.{length, drop, length-append}
 use Rattle.model.specs.Places.{padded}
 use Rattle.model.specs.Bounds.{scaled}
 use Rattle.graph.specs.Model.{AcceptedGraph, asModel}
@@ -12,8 +12,8 @@ use Rattle.graph.specs.declared.Graph.{Graph}
 use Rattle.graph.specs.declared.Refusal.{Refusal}
 use Rattle.graph.specs.declared.Answer.{Answer}
 use Rattle.graph.specs.declared.Answer.the-variants.{Accepted, Refused}
-use Rattle.graph.specs.declared.Taken.{Taken}
-use Rattle.graph.proofs.Accepted.{taken}
+use Rattle.reader.specs.Laid.{graphIn, TakenInto}
+use Rattle.reader.specs.declared.Header.{Header}
 use Rattle.weights.specs.Weight.{weightBy, stages}
 use Rattle.weights.specs.declared.Measure.the-variants.{Scaled}
 use Rattle.paths.specs.Ahead.{weigh, Summed}
@@ -27,23 +27,20 @@ use Rattle.paths.proofs.Complete.{least-longest-same}
 use Rattle.paths.proofs.Traces.{trace-path}
 use Rattle.bounds.proofs.Weighing.{weighs}
 
-module _ (s : List ℕ) {t : Taken} (e : t ≡ readOf s) where
-  answered : {a : Answer} → t .answer ≡ a → readOf s .answer ≡ a
-  answered p = sym (ap (λ (x : Taken). x .answer) e) ∙ p
+module _ (s : List ℕ) {h : Header} {c k w e st o : List ℕ} (T : TakenInto s h c k w e st o) where
+  answered : {a : Answer} → h .answer ≡ a → readOf s .answer ≡ a
+  answered p = sym (T .answer) ∙ p
 
-  pub read-accepted : ((i : ℕ) → getD s i 0 < 256) → t .answer ≡ Accepted → AcceptedGraph (t .graph)
-  read-accepted bytes p = rw e (taken s bytes (answered p))
+  pub bounds-accepted : (r : Bounded) → h .answer ≡ Accepted → r .answer ≡ Accepted → Figures (asModel (graphIn h c k w e)) r → BoundsOf s r
+  bounds-accepted r p q f = record { answer = q ∙ sym (answered p); figures = rw (answered p) (rw (T .laid (answered p) .graph) at f) }
 
-  pub bounds-accepted : (r : Bounded) → t .answer ≡ Accepted → r .answer ≡ Accepted → Figures (asModel (t .graph)) r → BoundsOf s r
-  bounds-accepted r p q f = record { answer = q ∙ sym (answered p); figures = rw (answered p) (rw e at f) }
-
-  pub bounds-refused : (r : Bounded) {x : Refusal} → t .answer ≡ Refused x → r .answer ≡ Refused x → Nothing r → BoundsOf s r
+  pub bounds-refused : (r : Bounded) {x : Refusal} → h .answer ≡ Refused x → r .answer ≡ Refused x → Nothing r → BoundsOf s r
   bounds-refused r p q f = record { answer = q ∙ sym (answered p); figures = rw (answered p) f }
 
-  pub path-accepted : (old : List ℕ) {r : Pathed} {new : List ℕ} → t .answer ≡ Accepted → PathIn (t .graph) old r new → PathOf s old r new
-  path-accepted old p h = accepted (answered p) (rw e at h)
+  pub path-accepted : (old : List ℕ) {r : Pathed} {new : List ℕ} → h .answer ≡ Accepted → PathIn (graphIn h c k w e) old r new → PathOf s old r new
+  path-accepted old p f = accepted (answered p) (rw (T .laid (answered p) .graph) at f)
 
-  pub path-refused : (old : List ℕ) {x : Refusal} → t .answer ≡ Refused x → PathOf s old (NoPath x) old
+  pub path-refused : (old : List ℕ) {x : Refusal} → h .answer ≡ Refused x → PathOf s old (NoPath x) old
   path-refused old p = refused (answered p)
 
 -- the trace from the source, over the scaled weights, is the path

@@ -2,6 +2,7 @@
 pub mod Weighing
 -- The entries:
 pub mod Entries
+pub mod Again
 -- What each public contract leaves open: nothing.
 pub mod Unique
 pub mod Outcomes

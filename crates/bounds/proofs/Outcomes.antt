@@ -8,8 +8,8 @@ use Rattle.bounds.proofs.path as path
 use Rattle.bounds.proofs.path.Reads as path-reads
 use Rattle.bounds.proofs.path_into as path-into
 use Rattle.bounds.proofs.path_into.Reads as path-into-reads
-use Rattle.bounds.proofs.accepted.figures as figures
-use Rattle.bounds.proofs.accepted.figures.Reads as figures-reads
+use Rattle.bounds.proofs.figures as figures
+use Rattle.bounds.proofs.figures.Reads as figures-reads
 
 pub bounds-one : OneOutcome bounds.ended bounds-reads.Pre bounds-reads.Post
 bounds-one κs a r r′ ws ws′ pre p q = (bounds-unique _ r r′ p q, refl)

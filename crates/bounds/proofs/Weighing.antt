@@ -6,7 +6,7 @@ use Prim.Native.Nat.{ℕ, _-_, _*_, _/_, _≤_, _<_}
 use native.Mathlib.Nat.{mul-le-mul-left, mul-le-mul-right}
 use native.Mathlib.Omega.{arith}
 use lib.ListN.{getD}
-use Rattle.model.specs.Places.{along, table, padded}
+use Rattle.model.specs.Places.{along, padded}
 use Rattle.model.specs.Path.{Greatest}
 use Rattle.model.specs.Bounds.{PARTS, scaled, mostCores}
 use Rattle.model.specs.Graph as model
@@ -14,7 +14,7 @@ use Rattle.model.proofs.Tables.{padded-at}
 use Rattle.model.proofs.Sums.{largest-most}
 use Rattle.graph.specs.Model.{AcceptedGraph, asModel}
 use Rattle.graph.specs.declared.Graph.{Graph}
-use Rattle.starts.specs.Starts.{firstEdge}
+use Rattle.reader.specs.Laid.{Along}
 use Rattle.weights.specs.Weight.{weightBy, stages, Small}
 use Rattle.weights.specs.declared.Measure.{Measure}
 use Rattle.weights.specs.declared.Measure.the-variants.{Plain, Scaled}
@@ -42,21 +42,22 @@ module _ {g : Graph} (G : AcceptedGraph g) where
       omega (arith, G .well-formed .some-core _ k, largest-most (asModel g .cores) (g .kinds) (asModel g .kind 0) k)
 
   -- a list of weights by a measure of which none is above c, and the largest sum over it
-  module _ {st : List ℕ} (S : st ≡ table (firstEdge g) 129) (by : Measure) (c : ℕ) (most : (v : ℕ) → v < g .n → weightBy by (asModel g) v ≤ c) (room : c ≤ 720720000000)
+  module _ {st o : List ℕ} (A : Along g st o) (by : Measure) (c : ℕ) (most : (v : ℕ) → v < g .n → weightBy by (asModel g) v ≤ c) (room : c ≤ 720720000000)
       {w : List ℕ} (e : w ≡ padded 128 (weightBy by (stages (g .kind) (g .wcet) (g .cores) (g .kinds) (g .n))) (g .n)) where
     weights-are : (v : ℕ) → v < g .n → weigh w v ≡ weightBy by (asModel g) v
     unfolding weightBy asModel
     weights-are = weighs (weightBy by (asModel g)) (g .n) e
 
-    pub weighed-by : Weighed g (g .edge) st (g .n) w
+    pub weighed-by : Weighed g (g .edge) st o (g .n) w
     unfolding asModel
     weighed-by = record {
-      rows = record { accepted = G; edge = refl; starts = S };
+      rows = record { accepted = G; edge = refl; starts = A .starts };
+      order = A .order;
       vertices = refl;
       light = λ v l. omega (arith, weights-are v l, most v l);
     }
 
-    module _ (x : ℕ) (largest : (h : Graph) → Weighed h (g .edge) st (g .n) w → Greatest (asModel h) (along (weigh w)) x) where
+    module _ (x : ℕ) (largest : (h : Graph) → Weighed h (g .edge) st o (g .n) w → Greatest (asModel h) (along (weigh w)) x) where
       pub greatest-by : Greatest (asModel g) (along (weightBy by (asModel g))) x
       unfolding asModel
       greatest-by = greatest-same (G .well-formed) (weigh w) (weightBy by (asModel g)) weights-are (largest g weighed-by)

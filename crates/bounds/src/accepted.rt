@@ -1,18 +1,23 @@
-// The bounds of an accepted graph.
+// The bounds and the path of an accepted graph, over its lists as they are lent.
 ghost use mathlib.Core.Path.{_≡_};
 ghost use Prim.Native.Nat.{_+_, _-_, _*_, _/_, _≤_, _<_};
+ghost use lib.ListN.{length};
 ghost use Rattle.model.specs.Places.{along};
 ghost use Rattle.model.specs.Path.{Greatest};
 ghost use Rattle.model.specs.Bounds.{PARTS};
 ghost use Rattle.graph.specs.declared.Graph.{Graph};
 ghost use Rattle.graph.specs.declared.Answer.the-variants.{Accepted};
 ghost use Rattle.graph.specs.Model.{AcceptedGraph, asModel};
+ghost use Rattle.reader.specs.Laid.{graphIn, Usable};
 ghost use Rattle.paths.specs.Ahead.{weigh, Weighed};
-ghost use Rattle.bounds.specs.Answers.{Figures};
+ghost use Rattle.bounds.specs.Answers.{Figures, PathIn};
 use crate::Bounded;
+use crate::Pathed;
 use graph::Answer;
-use graph::Graph;
+use graph::Refusal;
 use paths::ahead::longest;
+use paths::trace::trace;
+use reader::Header;
 use units::Parts;
 use units::Ticks;
 use weights::Measure;
@@ -21,11 +26,17 @@ use weights::volume::volume;
 use weights::weights;
 
 // The largest sum along a complete path.
-fn largest(edge: &[u16; 1024], start: &[u16; 129], n: usize, weight: &[u64; 128]) -> u64
-    requires { ⌜ ((g : Graph) × Weighed g (now edge) (now start) n (now weight)) ⌝ }
-    ensures { λ r. ⌜ ((g : Graph) → Weighed g (now (edge .entry)) (now (start .entry)) n (now (weight .entry)) → Greatest (asModel g) (along (weigh (now (weight .entry)))) r) ⌝ }
+fn largest(
+    edge: &[u16; 1024],
+    start: &[u16; 129],
+    order: &[u8; 128],
+    n: usize,
+    weight: &[u64; 128],
+) -> u64
+    requires { ⌜ ((g : Graph) × Weighed g (now edge) (now start) (now order) n (now weight)) ⌝ }
+    ensures { λ r. ⌜ ((g : Graph) → Weighed g (now (edge .entry)) (now (start .entry)) (now (order .entry)) n (now (weight .entry)) → Greatest (asModel g) (along (weigh (now (weight .entry)))) r) ⌝ }
 {
-    let sums = longest(edge, start, n, weight);
+    let sums = longest(edge, start, order, n, weight);
     let h = sums.head;
     weight[h] + sums.ahead[h]
 }
@@ -38,19 +49,27 @@ fn old_b(len: Ticks, cores: u8, shares: Parts) -> Parts
     Parts::rest(cores).for_ticks(len).plus(shares)
 }
 
-pub fn figures(g: Graph) -> Bounded
-    requires { ⌜ AcceptedGraph g ⌝ }
+pub(crate) fn figures_of<'a>(
+    h: Header,
+    cores: &'a [u8; 10],
+    kind: &'a [u8; 128],
+    wcet: &'a [u32; 128],
+    edge: &'a [u16; 1024],
+    start: &'a [u16; 129],
+    order: &'a [u8; 128],
+) -> Bounded
+    requires { ⌜ Usable h (now cores) (now kind) (now wcet) (now edge) (now start) (now order) ⌝ }
     ensures { λ r. ⌜ r .answer ≡ Accepted ⌝ }
-    ensures { λ r. ⌜ Figures (asModel g) r ⌝ }
+    ensures { λ r. ⌜ Figures (asModel (graphIn h (now (cores .entry)) (now (kind .entry)) (now (wcet .entry)) (now (edge .entry)))) r ⌝ }
 {
-    let n = g.n;
-    let start = starts::starts(g);
-    let shares = volume(&g.kind, &g.wcet, &g.cores, g.kinds, n);
-    let plain = weights(&g.kind, &g.wcet, &g.cores, g.kinds, n, Measure::Plain);
-    let scaled = weights(&g.kind, &g.wcet, &g.cores, g.kinds, n, Measure::Scaled);
-    let len = Ticks(largest(&g.edge, &start, n, &plain));
-    let old = old_b(len, most_cores(&g.cores, g.kinds), shares);
-    let new = Parts(largest(&g.edge, &start, n, &scaled)).plus(shares);
+    let n = h.n;
+    let kinds = h.kinds;
+    let shares = volume(kind, wcet, cores, kinds, n);
+    let plain = weights(kind, wcet, cores, kinds, n, Measure::Plain);
+    let scaled = weights(kind, wcet, cores, kinds, n, Measure::Scaled);
+    let len = Ticks(largest(edge, start, order, n, &plain));
+    let old = old_b(len, most_cores(cores, kinds), shares);
+    let new = Parts(largest(edge, start, order, n, &scaled)).plus(shares);
     let ticks = new.ticks();
     Bounded {
         answer: Answer::Accepted,
@@ -58,4 +77,30 @@ pub fn figures(g: Graph) -> Bounded
         new,
         ticks,
     }
+}
+
+// A path may be shorter than the room that is asked for.
+pub(crate) fn path_of<'a>(
+    h: Header,
+    cores: &'a [u8; 10],
+    kind: &'a [u8; 128],
+    wcet: &'a [u32; 128],
+    edge: &'a [u16; 1024],
+    start: &'a [u16; 129],
+    order: &'a [u8; 128],
+    out: &mut [u8],
+) -> Pathed
+    requires { ⌜ Usable h (now cores) (now kind) (now wcet) (now edge) (now start) (now order) ⌝ }
+    ensures { λ r. ⌜ PathIn (graphIn h (now (cores .entry)) (now (kind .entry)) (now (wcet .entry)) (now (edge .entry))) (now (out .entry)) r (now (out .exit)) ⌝ }
+{
+    let n = h.n;
+    if out.len() < n {
+        return Pathed::Refused(Refusal {
+            number: 15,
+            place: 0,
+        });
+    }
+    let weight = weights(kind, wcet, cores, h.kinds, n, Measure::Scaled);
+    let sums = longest(edge, start, order, n, &weight);
+    Pathed::Vertices(trace(edge, start, &weight, &sums.ahead, sums.head, out))
 }

@@ -1,15 +1,17 @@
 // The bounds OLD-B and NEW-B-1, and the path that gives NEW-B-1. The two entries take the file's bytes.
 ghost use mathlib.Core.Path.{_≡_};
-ghost use Rattle.graph.specs.Model.{AcceptedGraph};
-ghost use Rattle.graph.specs.declared.Answer.the-variants.{Refused};
-ghost use Rattle.bounds.specs.Answers.{Nothing, BoundsOf, PathOf, PathIn};
+ghost use Rattle.graph.specs.Model.{AcceptedGraph, asModel};
+ghost use Rattle.graph.specs.declared.Answer.the-variants.{Accepted, Refused};
+ghost use Rattle.reader.specs.Laid.{Along};
+ghost use Rattle.bounds.specs.Answers.{Figures, Nothing, BoundsOf, PathOf, PathIn};
 use graph::Answer;
 use graph::Graph;
 use graph::Refusal;
+use reader::Header;
 use units::Parts;
 use units::Ticks;
 
-pub mod accepted; // accepted.rt: the bounds of an accepted graph
+mod accepted; // accepted.rt: the bounds and the path of an accepted graph
 
 // The reader's answer, and the two bounds; `ticks` is NEW-B-1 in whole ticks. Beside a refusal all three are 0.
 pub struct Bounded {
@@ -34,14 +36,25 @@ fn nothing(refusal: Refusal) -> Bounded
 pub fn bounds(file: &[u8]) -> Bounded
     ensures { λ r. ⌜ BoundsOf (now (file .entry)) r ⌝ }
 {
-    let taken = reader::read(file);
-    let answer = taken.answer;
+    let mut cores = [0u8; 10];
+    let mut kind = [0u8; 128];
+    let mut wcet = [0u32; 128];
+    let mut edge = [0u16; 1024];
+    let mut starts = [0u16; 129];
+    let mut order = [0u8; 128];
+    let h = reader::take(
+        file,
+        &mut cores,
+        &mut kind,
+        &mut wcet,
+        &mut edge,
+        &mut starts,
+        &mut order,
+    );
+    let answer = h.answer;
     match answer {
         Answer::Refused(refusal) => nothing(refusal),
-        Answer::Accepted => {
-            let g = taken.graph;
-            accepted::figures(g)
-        }
+        Answer::Accepted => accepted::figures_of(h, &cores, &kind, &wcet, &edge, &starts, &order),
     }
 }
 
@@ -51,42 +64,75 @@ pub enum Pathed {
     Refused(Refusal),
 }
 
-// The path of an accepted graph. A path may be shorter than the room that is asked for.
-pub fn path_into(g: Graph, out: &mut [u8]) -> Pathed
-    requires { ⌜ AcceptedGraph g ⌝ }
-    ensures { λ r. ⌜ PathIn g (now (out .entry)) r (now (out .exit)) ⌝ }
-{
-    if out.len() < g.n {
-        return Pathed::Refused(Refusal {
-            number: 15,
-            place: 0,
-        });
-    }
-    let n = g.n;
-    let start = starts::starts(g);
-    let weight = weights::weights(
-        &g.kind,
-        &g.wcet,
-        &g.cores,
-        g.kinds,
-        n,
-        weights::Measure::Scaled,
-    );
-    let sums = paths::ahead::longest(&g.edge, &start, n, &weight);
-    Pathed::Vertices(paths::trace::trace(&g.edge, &start, &weight, &sums.ahead, sums.head, out))
-}
-
 // The path, a byte for each vertex, into the list that the caller lends.
 pub fn path(file: &[u8], out: &mut [u8]) -> Pathed
     ensures { λ r. ⌜ PathOf (now (file .entry)) (now (out .entry)) r (now (out .exit)) ⌝ }
 {
-    let taken = reader::read(file);
-    let answer = taken.answer;
+    let mut cores = [0u8; 10];
+    let mut kind = [0u8; 128];
+    let mut wcet = [0u32; 128];
+    let mut edge = [0u16; 1024];
+    let mut starts = [0u16; 129];
+    let mut order = [0u8; 128];
+    let h = reader::take(
+        file,
+        &mut cores,
+        &mut kind,
+        &mut wcet,
+        &mut edge,
+        &mut starts,
+        &mut order,
+    );
+    let answer = h.answer;
     match answer {
         Answer::Refused(refusal) => Pathed::Refused(refusal),
         Answer::Accepted => {
-            let g = taken.graph;
-            path_into(g, out)
+            accepted::path_of(h, &cores, &kind, &wcet, &edge, &starts, &order, out)
         }
     }
+}
+
+// ---- of a graph that was read already
+
+fn header_of(g: Graph) -> Header
+    ensures { λ h. ⌜ h ≡ record { answer = Accepted; kinds = g .kinds; n = g .n; edges = g .edges } ⌝ }
+{
+    Header {
+        answer: Answer::Accepted,
+        kinds: g.kinds,
+        n: g.n,
+        edges: g.edges,
+    }
+}
+
+// Where each vertex's edges begin, and an order along them: found again.
+fn along(g: Graph, starts: &mut [u16; 129]) -> [u8; 128]
+    requires { ⌜ AcceptedGraph g ⌝ }
+    ensures { λ r. ⌜ Along g (now (starts .exit)) r ⌝ }
+{
+    *starts = starts::starts(&g.edge, g.edges);
+    let mut order = [0u8; 128];
+    cycle::last_number(&g.edge, starts, g.n, g.edges, &mut order);
+    order
+}
+
+pub fn figures(g: Graph) -> Bounded
+    requires { ⌜ AcceptedGraph g ⌝ }
+    ensures { λ r. ⌜ r .answer ≡ Accepted ⌝ }
+    ensures { λ r. ⌜ Figures (asModel g) r ⌝ }
+{
+    let mut starts = [0u16; 129];
+    let order = along(g, &mut starts);
+    let h = header_of(g);
+    accepted::figures_of(h, &g.cores, &g.kind, &g.wcet, &g.edge, &starts, &order)
+}
+
+pub fn path_into(g: Graph, out: &mut [u8]) -> Pathed
+    requires { ⌜ AcceptedGraph g ⌝ }
+    ensures { λ r. ⌜ PathIn g (now (out .entry)) r (now (out .exit)) ⌝ }
+{
+    let mut starts = [0u16; 129];
+    let order = along(g, &mut starts);
+    let h = header_of(g);
+    accepted::path_of(h, &g.cores, &g.kind, &g.wcet, &g.edge, &starts, &order, out)
 }

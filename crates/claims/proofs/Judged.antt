@@ -14,7 +14,7 @@ use Rattle.model.proofs.Bools.{not-true, le-or-lt}
 use Rattle.model.proofs.Cycles.{cyclic-walk, walk-cyclic}
 use Rattle.graph.specs.File.{graphOf, noGraph}
 use Rattle.graph.specs.Model.{AcceptedGraph}
-use Rattle.graph.specs.Rules.{holds, places, rule11, rule12}
+use Rattle.graph.specs.Rules.{holds, perRecord, places, rule11, rule12}
 use Rattle.graph.specs.Judge.{judgeFrom, readOf, Rightly}
 use Rattle.graph.specs.declared.Refusal.{Refusal}
 use Rattle.graph.specs.declared.Answer.{Answer}
@@ -37,22 +37,29 @@ read-answered s = go (judgeFrom 1 s) refl
     go Accepted e = taken e (λ num k f l d. none-holds 1 s e num f l k d) (rw e refl)
     go (Refused r) e = refused e (rightly 1 s r e) (rw e refl)
 
+-- a number that is said of the whole file is given, at place 0, exactly where its row holds and no lower number applies
+pub whole-judged : (s : List ℕ) (num : ℕ) → 1 ≤ num → num < 13 → perRecord num ≡ false → (judgeFrom 1 s ≡ Refused (at-0 num)) ↔ (NoneFrom 1 num s × (holds s num 0 ≡ true))
+whole-judged s num f l w = (
+  λ e. let r = rightly 1 s (at-0 num) e in (r .no-lower, r .there),
+  λ c. refuses 1 s num f l (c .0) w (c .1),
+)
+
 module _ (s : List ℕ) (bytes : Bytes s) where
   -- where no lower number applies, the row of number 11 says that there is a cycle
   cycle-row : NoneFrom 1 11 s → (holds s 11 0 ≡ true) ↔ Closed (drawnIn s)
   unfolding holds rule11
   cycle-row none =
-      let W = accepted.well-formed s bytes (λ num f l k d. none num k f l d) in
+      let W = accepted.well-formed s bytes (λ num f l k d. none num k (omega arith) l d) in
       (walk-cyclic W, λ c. cyclic-walk W (c .0) (c .1))
 
   pub cycle-judged : (judgeFrom 1 s ≡ Refused (at-0 11)) ↔ (NoneFrom 1 11 s × Closed (drawnIn s))
   cycle-judged = (to, back)
     where
       to : judgeFrom 1 s ≡ Refused (at-0 11) → NoneFrom 1 11 s × Closed (drawnIn s)
-      to e = let r = rightly 1 s (at-0 11) e in (r .no-lower, cycle-row (r .no-lower) .0 (r .there))
+      to e = let r = whole-judged s 11 (lit≤ tt) (lit< tt) refl .0 e in (r .0, cycle-row (r .0) .0 (r .1))
 
       back : NoneFrom 1 11 s × Closed (drawnIn s) → judgeFrom 1 s ≡ Refused (at-0 11)
-      back c = refuses 1 s 11 (lit≤ tt) (lit< tt) (c .0) refl (cycle-row (c .0) .1 (c .1))
+      back c = whole-judged s 11 (lit≤ tt) (lit< tt) refl .1 (c .0, cycle-row (c .0) .1 (c .1))
 
   -- the two numbers that are said of the whole file, at their one place
   no-cycle : Sound s → (k : ℕ) → k < places s 11 → holds s 11 k ≡ false

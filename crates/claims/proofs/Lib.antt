@@ -4,6 +4,8 @@ pub mod Demand2
 pub mod Demand3
 pub mod Called
 pub mod Worked
+-- What the orders brought.
+pub mod Order6
 -- What they cite of this crate.
 pub mod Entries
 pub mod Judged

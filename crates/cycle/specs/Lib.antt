@@ -1,4 +1,3 @@
 pub mod Last
 -- What only private functions speak of.
-pub mod Marks
-pub mod Ranks
+pub mod Line

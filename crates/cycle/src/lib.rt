@@ -1,184 +1,127 @@
 // Numbers 11 and 12, of an edge list: cycles, sources and sinks.
 //
-// A table has a place for each byte, so that an end of an edge, which is one, needs no bound. Who judges from a later number
-// than 2 may have edges here whose ends nobody has declared: an edge that comes from no vertex below `n` joins nothing.
-//
-// Cycles are found by ranks, which begin with 0. A sweep raises each edge's end above the vertex that the edge comes from. So
-// no rank is above the longest walk that ends there, and after r sweeps none is below a walk of r edges. A cycle makes walks of
-// n edges, and nothing else does: some rank comes to n.
+// A vertex is taken up once nobody who leads to it is left: at first those that nobody leads to. Whoever is taken up tells its successors,
+// so that each edge is looked at once. On a cycle everyone waits for another, also where no source reaches it: so there is a cycle just
+// where somebody is never taken up. Where nobody is left, the order in which they were taken up goes along the edges.
 ghost use mathlib.Core.Path.{_≡_};
-ghost use Prim.Native.Nat.{_+_, _<_, _≤_, min, max};
-ghost use Rattle.model.specs.Places.{pick, bit, count, any};
-ghost use Rattle.model.specs.Cycle.{cyclic};
-ghost use Rattle.graph.specs.Model.{asModel};
-ghost use Rattle.cycle.specs.Last.{drawn, astray, lastOf};
-ghost use Rattle.cycle.specs.Marks.{Marks, atLeast, tipOf, touched, alone};
-ghost use Rattle.cycle.specs.Ranks.{turned, Swept, Reached, differs};
+ghost use Prim.Native.Nat.{ℕ, _+_, _≤_, _<_};
+ghost use lib.Dec.{eqb};
+ghost use lib.ListN.{getD, length};
+ghost use Rattle.model.specs.Places.{count};
+ghost use Rattle.starts.specs.Starts.{leadsTo, Rows, Ordered};
+ghost use Rattle.waiting.specs.Waiting.{leading, edgesBy};
+ghost use Rattle.cycle.specs.Last.{drawn, lastOf};
+ghost use Rattle.cycle.specs.Line.{everyone, Unled, Told, Line};
 
-// The end that an edge goes to, or the one that it comes from.
-fn end_of(edge: u16, to: bool) -> usize
-    ensures { λ r. ⌜ (r ≡ tipOf edge to) × (r < 256) ⌝ }
-{
-    if to {
-        (edge % 256) as usize
-    } else {
-        (edge / 256) as usize
-    }
-}
-
-fn smaller(x: usize, y: usize) -> usize
-    ensures { λ r. ⌜ r ≡ min x y ⌝ }
-{
-    if x < y { x } else { y }
-}
-
-fn larger(x: usize, y: usize) -> usize
-    ensures { λ r. ⌜ r ≡ max x y ⌝ }
-{
-    if x < y { y } else { x }
-}
-
-// 1 where `b` holds, else 0: what a loop that counts adds, with no branch of its own.
-fn one(b: bool) -> usize
-    ensures { λ r. ⌜ (r ≡ bit b) × (r ≤ 1) ⌝ }
-{
-    if b { 1 } else { 0 }
-}
-
-// The rank of an edge's end, once the edge is swept: above that of the vertex that it comes from, but not above `n`.
-fn raised(old: u8, near: u8, on: bool, n: usize) -> u8
+// The vertices that nobody leads to come first.
+fn unled(waiting: &[u8; 128], n: usize, order: &mut [u8; 128]) -> usize
     requires { ⌜ n ≤ 128 ⌝ }
-    ensures { λ r. ⌜ r ≡ pick on (max old (min (near + 1) n)) old ⌝ }
+    requires { ⌜ length (now order) ≡ 128 ⌝ }
+    ensures { λ r. ⌜ Unled (now (waiting .entry)) n (now (order .exit)) r ⌝ }
 {
-    let up = smaller(near as usize + 1, n);
-    if on {
-        larger(old as usize, up) as u8
-    } else {
-        old
-    }
-}
-
-// The j-th place of a sweep, from the first on or from the last.
-fn turned(back: bool, edges: usize, j: usize) -> usize
-    requires { ⌜ j < edges ⌝ }
-    ensures { λ r. ⌜ (r ≡ turned back edges j) × (r < edges) ⌝ }
-{
-    if back { edges - 1 - j } else { j }
-}
-
-// One sweep over the edges.
-fn sweep(edge: &[u16; 1024], n: usize, edges: usize, back: bool, old: [u8; 256]) -> [u8; 256]
-    requires { ⌜ (n ≤ 128) × (edges ≤ 1024) × Reached (drawn (now edge) n edges) old ⌝ }
-    ensures { λ r. ⌜ Swept (drawn (now (edge .entry)) n edges) (turned back edges) edges old r × Reached (drawn (now (edge .entry)) n edges) r ⌝ }
-{
-    let mut rank = old;
-    let mut j = 0;
-    while j < edges {
-        let i = turned(back, edges, j);
-        let key = edge[i];
-        let from = end_of(key, false);
-        let to = end_of(key, true);
-        rank[to] = raised(rank[to], rank[from], from < n, n);
-        j += 1;
-    }
-    rank
-}
-
-// Whether two tables differ.
-fn changed(old: &[u8; 256], new: &[u8; 256]) -> bool
-    ensures { λ r. ⌜ r ≡ any (differs (now (old .entry)) (now (new .entry))) 256 ⌝ }
-{
-    let mut some = false;
-    let mut v = 0;
-    while v < 256 {
-        some = some | (old[v] != new[v]);
-        v += 1;
-    }
-    some
-}
-
-// How many of the first `n` places have `x` or more.
-fn at_least(table: &[u8; 256], x: u8, n: usize) -> usize
-    requires { ⌜ n ≤ 128 ⌝ }
-    ensures { λ r. ⌜ (r ≡ count (atLeast (now (table .entry)) x) n) × (r ≤ n) ⌝ }
-{
-    let mut c: usize = 0;
-    let mut v = 0;
+    let mut found: usize = 0;
+    let mut v: usize = 0;
     while v < n {
-        c += one(x <= table[v]);
+        if waiting[v] == 0 {
+            order[found] = v as u8;
+            found += 1;
+        }
         v += 1;
     }
-    c
+    found
 }
 
-// Number 11: some walk has as many edges as there are vertices. Sweeps go forwards and backwards in turn: where the numbers of the
-// vertices go along the edges, or all against them, two or three are enough. One that raises nothing is the last.
-fn cyclic(edge: &[u16; 1024], n: usize, edges: usize) -> bool
-    requires { ⌜ (n ≤ 128) × (edges ≤ 1024) ⌝ }
-    ensures { λ r. ⌜ r ≡ cyclic (asModel (drawn (now (edge .entry)) n edges)) ⌝ }
+// One predecessor less for each successor along the edges from place `start` up to `end`. Who has none left is taken up.
+fn tell(
+    edge: &[u16; 1024],
+    start: u16,
+    end: u16,
+    waiting: &mut [u8; 128],
+    order: &mut [u8; 128],
+    found: usize,
+) -> usize
+    requires { ⌜ (length (now waiting) ≡ 128) × (length (now order) ≡ 128) ⌝ }
+    requires { ⌜ (start ≤ end) × (end ≤ 1024) ⌝ }
+    requires { ⌜ ((i : ℕ) → i < end → leadsTo (now edge) i < 128) ⌝ }
+    requires { ⌜ ((v : ℕ) → v < 128 → leading (now edge) start end v ≤ getD (now waiting) v 0) ⌝ }
+    requires { ⌜ everyone (now waiting) found ≤ 128 ⌝ }
+    ensures { λ r. ⌜ Told (now (edge .entry)) start end (now (waiting .entry)) (now (order .entry)) found (now (waiting .exit)) (now (order .exit)) r ⌝ }
 {
-    let mut rank = [0u8; 256];
-    let mut moved = true;
-    let mut r = 0;
-    while moved & (r < n) {
-        let next = sweep(edge, n, edges, r % 2 == 1, rank);
-        moved = changed(&rank, &next);
-        rank = next;
-        r += 1;
-    }
-    at_least(&rank, n as u8, n) != 0
-}
-
-// 1 where `on` holds, else what was there.
-fn joined(old: u8, on: bool) -> u8
-    ensures { λ r. ⌜ r ≡ pick on 1 old ⌝ }
-{
-    if on { 1 } else { old }
-}
-
-// Marks of the vertices that an edge goes to, or with `back` of those that an edge comes from.
-fn marked(edge: &[u16; 1024], n: usize, edges: usize, back: bool) -> [u8; 256]
-    requires { ⌜ edges ≤ 1024 ⌝ }
-    ensures { λ r. ⌜ Marks r (touched (drawn (now (edge .entry)) n edges) back edges) ⌝ }
-{
-    let mut marks = [0u8; 256];
-    let mut i = 0;
-    while i < edges {
-        let key = edge[i];
-        let near = end_of(key, back);
-        let far = end_of(key, !back);
-        marks[far] = joined(marks[far], near < n);
+    let mut all = found;
+    let mut i = start as usize;
+    while i < end as usize {
+        let v = starts::to(edge[i]);
+        let rest = waiting[v] - 1;
+        waiting[v] = rest;
+        if rest == 0 {
+            order[all] = v as u8;
+            all += 1;
+        }
         i += 1;
     }
-    marks
+    all
 }
 
-// How many vertices no edge goes to, or with `back` no edge comes from.
-fn lone(edge: &[u16; 1024], n: usize, edges: usize, back: bool) -> usize
-    requires { ⌜ (n ≤ 128) × (edges ≤ 1024) ⌝ }
-    ensures { λ r. ⌜ r ≡ count (alone (drawn (now (edge .entry)) n edges) back) n ⌝ }
+// Everyone who is taken up tells its successors, in the order of taking up. What is returned is how many there are at last.
+fn take_up(
+    edge: &[u16; 1024],
+    starts: &[u16; 129],
+    waiting: &mut [u8; 128],
+    order: &mut [u8; 128],
+    first: usize,
+) -> usize
+    requires { ⌜ Rows (now edge) (edgesBy (now starts)) (everyone (now waiting) first) (now starts) ⌝ }
+    requires { ⌜ Line (now edge) (edgesBy (now starts)) (everyone (now waiting) first) (now waiting) (now order) 0 first ⌝ }
+    ensures { λ r. ⌜ Line (now (edge .entry)) (edgesBy (now (starts .entry))) (everyone (now (waiting .entry)) first) (now (waiting .exit)) (now (order .exit)) r r ⌝ }
 {
-    let marks = marked(edge, n, edges, back);
-    n - at_least(&marks, 1, n)
+    let mut found = first;
+    let mut told: usize = 0;
+    while told < found {
+        let u = order[told] as usize;
+        found = tell(edge, starts[u], starts[u + 1], waiting, order, found);
+        told += 1;
+    }
+    found
 }
 
-// Number 12: not exactly one source, or not exactly one sink.
-fn ends_astray(edge: &[u16; 1024], n: usize, edges: usize) -> bool
-    requires { ⌜ (n ≤ 128) × (edges ≤ 1024) ⌝ }
-    ensures { λ r. ⌜ r ≡ astray (drawn (now (edge .entry)) n edges) ⌝ }
+// How many vertices no edge comes from: their edges end where they begin.
+fn sinks(starts: &[u16; 129], n: usize) -> usize
+    requires { ⌜ n ≤ 128 ⌝ }
+    ensures { λ r. ⌜ r ≡ count (λ u. eqb (getD (now (starts .entry)) u 0) (getD (now (starts .entry)) (u + 1) 0)) n ⌝ }
 {
-    let sources = lone(edge, n, edges, false);
-    let sinks = lone(edge, n, edges, true);
-    (sources != 1) | (sinks != 1)
+    let mut found: usize = 0;
+    let mut u: usize = 0;
+    while u < n {
+        if starts[u] == starts[u + 1] {
+            found += 1;
+        }
+        u += 1;
+    }
+    found
 }
 
-// The number of these two that applies, or 13 where none does.
-pub fn last_number(edge: &[u16; 1024], n: usize, edges: usize) -> u32
-    requires { ⌜ (n ≤ 128) × (edges ≤ 1024) ⌝ }
+// The number of these two that applies, or 13 where none does. Then `order` has the vertices in an order along the edges.
+pub fn last_number(
+    edge: &[u16; 1024],
+    starts: &[u16; 129],
+    n: usize,
+    edges: usize,
+    order: &mut [u8; 128],
+) -> u32
+    requires { ⌜ Rows (now edge) edges n (now starts) ⌝ }
+    requires { ⌜ length (now order) ≡ 128 ⌝ }
     ensures { λ r. ⌜ r ≡ lastOf (drawn (now (edge .entry)) n edges) ⌝ }
+    ensures { λ r. ⌜ (r ≡ 13 → Ordered (now (edge .entry)) edges n (now (order .exit))) ⌝ }
 {
-    if cyclic(edge, n, edges) {
+    let mut waiting = waiting::counted(edge, starts[128]);
+    let sources = unled(&waiting, n, order);
+    let found = take_up(edge, starts, &mut waiting, order, sources);
+    if found != n {
         return 11;
     }
-    if ends_astray(edge, n, edges) { 12 } else { 13 }
+    if (sources != 1) | (sinks(starts, n) != 1) {
+        12
+    } else {
+        13
+    }
 }

@@ -3,8 +3,7 @@
 --   accepted          the graph of an accepted file is an accepted graph
 --   taken             the same, of what the reader hands back
 --   refused-rightly   a refusal of the reader is the lowest number that applies, with the first place that it holds for
---   refused-zero      and the graph beside it is zero throughout
-use mathlib.Core.Path.{_≡_, refl, ap, _∙_}
+use mathlib.Core.Path.{_≡_, ap, _∙_}
 use mathlib.Core.Bool.{false, not, _||_}
 use mathlib.Core.List.{List}
 use Prim.Native.Nat.{ℕ, suc, _+_, _-_, _*_, _≤_, _<_}
@@ -19,7 +18,7 @@ use Rattle.model.proofs.Bools.{or-neither, left-of, right-of}
 use Rattle.model.proofs.Places.{any-elim}
 use Rattle.model.proofs.Tables.{padded-at, padded-past}
 use Rattle.model.proofs.Cycles.{acyclic-test}
-use Rattle.graph.specs.File.{records, byteAt, wordAt, keyAt, order, many, column, words, keys, graphOf, noGraph}
+use Rattle.graph.specs.File.{records, byteAt, wordAt, keyAt, order, many, column, words, keys, graphOf}
 use Rattle.graph.specs.Model.{from, to, joins, asModel, AcceptedGraph}
 use Rattle.graph.specs.Rules.{holds, places, rule2, rule3, rule4, rule5, rule6, rule7, rule8, rule9, rule10, rule11, rule12}
 use Rattle.graph.specs.Judge.{judgeFrom, Rightly, readOf}
@@ -30,7 +29,7 @@ use Rattle.graph.proofs.Orders.{kind-record, vertex-record, edge-record
 
 -- ---- where none of the numbers up to 10 applies
 
-module _ (s : List ℕ) (bytes : (i : ℕ) → getD s i 0 < 256) (quiet : (num : ℕ) → 1 ≤ num → num < 11 → (k : ℕ) → k < places s num → holds s num k ≡ false) where
+module _ (s : List ℕ) (bytes : (i : ℕ) → getD s i 0 < 256) (quiet : (num : ℕ) → 2 ≤ num → num < 11 → (k : ℕ) → k < places s num → holds s num k ≡ false) where
   known : (k : ℕ) → k < records s → rule2 s k ≡ false
   unfolding places holds
   known = quiet 2 (lit≤ tt) (lit< tt)
@@ -39,7 +38,7 @@ module _ (s : List ℕ) (bytes : (i : ℕ) → getD s i 0 < 256) (quiet : (num :
   unfolding places holds
   sorted = quiet 3 (lit≤ tt) (lit< tt)
 
-  few-kinds : many s 0 ≤ 10
+  pub few-kinds : many s 0 ≤ 10
   unfolding places holds rule4
   few-kinds = ltb-false 10 (many s 0) (or-neither (eqb (many s 0) 0) _ (quiet 4 (lit≤ tt) (lit< tt) 0 (lit< tt)) .1)
 
@@ -47,11 +46,11 @@ module _ (s : List ℕ) (bytes : (i : ℕ) → getD s i 0 < 256) (quiet : (num :
   unfolding places holds rule6
   some-vertex = omega (arith, eqb-false (many s 1) 0 (or-neither (eqb (many s 1) 0) (ltb 128 (many s 1)) (quiet 6 (lit≤ tt) (lit< tt) 0 (lit< tt)) .0))
 
-  few-vertices : many s 1 ≤ 128
+  pub few-vertices : many s 1 ≤ 128
   unfolding places holds rule6
   few-vertices = ltb-false 128 (many s 1) (or-neither (eqb (many s 1) 0) _ (quiet 6 (lit≤ tt) (lit< tt) 0 (lit< tt)) .1)
 
-  few-edges : many s 2 ≤ 1024
+  pub few-edges : many s 2 ≤ 1024
   unfolding places holds rule8
   few-edges = ltb-false 1024 (many s 2) (quiet 8 (lit≤ tt) (lit< tt) 0 (lit< tt))
 
@@ -128,13 +127,13 @@ module _ (s : List ℕ) (bytes : (i : ℕ) → getD s i 0 < 256) (quiet : (num :
   unfolding to keyAt
   to-at i l = rw (key-at i l) (omega (arith, bytes (8 * (many s 0 + many s 1 + i) + 2)))
 
-  from-known : (i : ℕ) → i < many s 2 → from (graphOf s) i < many s 1
+  pub from-known : (i : ℕ) → i < many s 2 → from (graphOf s) i < many s 1
   from-known i l = rw (from-at i l) (edge-row i l .from-declared)
 
-  to-known : (i : ℕ) → i < many s 2 → to (graphOf s) i < many s 1
+  pub to-known : (i : ℕ) → i < many s 2 → to (graphOf s) i < many s 1
   to-known i l = rw (to-at i l) (edge-row i l .to-declared)
 
-  ascending : (i : ℕ) → suc i < many s 2 → getD (graphOf s .edge) i 0 < getD (graphOf s .edge) (suc i) 0
+  pub ascending : (i : ℕ) → suc i < many s 2 → getD (graphOf s .edge) i 0 < getD (graphOf s .edge) (suc i) 0
   unfolding places holds rule10
   ascending i l =
       let j = many s 0 + many s 1 + i in
@@ -172,8 +171,8 @@ module _ (s : List ℕ) (bytes : (i : ℕ) → getD s i 0 < 256) (ok : judgeFrom
   none : (num : ℕ) → 1 ≤ num → num < 13 → (k : ℕ) → k < places s num → holds s num k ≡ false
   none num f l k d = none-holds 1 s ok num f l k d
 
-  quiet : (num : ℕ) → 1 ≤ num → num < 11 → (k : ℕ) → k < places s num → holds s num k ≡ false
-  quiet num f l k d = none num f (omega arith) k d
+  quiet : (num : ℕ) → 2 ≤ num → num < 11 → (k : ℕ) → k < places s num → holds s num k ≡ false
+  quiet num f l k d = none num (omega arith) (omega arith) k d
 
   no-cycle : Acyclic (asModel (graphOf s))
   unfolding places holds rule11
@@ -218,7 +217,3 @@ taken s bytes ok = rw ok (accepted s bytes ok)
 pub refused-rightly : (s : List ℕ) (r : Refusal) → readOf s .answer ≡ Refused r → Rightly 1 s r
 unfolding readOf
 refused-rightly s r h = rightly 1 s r h
-
-pub refused-zero : (s : List ℕ) (r : Refusal) → readOf s .answer ≡ Refused r → readOf s .graph ≡ noGraph
-unfolding readOf
-refused-zero s r h = rw h refl

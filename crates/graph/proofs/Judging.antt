@@ -1,5 +1,5 @@
 -- Which number is the lowest, and what a number that does not apply tells.
-use mathlib.Core.Path.{_≡_, refl, ap, _∙_, fun-ext}
+use mathlib.Core.Path.{_≡_, refl, sym, _∙_}
 use mathlib.Core.Logic.{_⊎_, inl, inr}
 use mathlib.Core.Bool.{Bool, true, false, not}
 use mathlib.Core.List.{List}
@@ -106,25 +106,34 @@ module _ (s : List ℕ) (a : ℕ) where
   unfolding judgeFrom
   judge-none e = rw e refl
 
--- where number 1 applies it is given, and where it does not the judgement starts at 2
-first-skip : (p q : ℕ → Bool) (n : ℕ) → p zero ≡ false → ((k : ℕ) → p (suc k) ≡ q k) → first p (suc n) ≡ suc (first q n)
-unfolding first
-first-skip p q n z h = rw z (ap (λ (f : ℕ → Bool). suc (first f n)) (fun-ext h))
+-- numbers that do not apply may be left out
+lowest-skip : (a b : ℕ) (s : List ℕ) → a ≤ b → b ≤ 13 → ((j : ℕ) → a ≤ j → j < b → applies s j ≡ false) → lowest a s ≡ lowest b s
+lowest-skip a b s f l none = go (le-or-lt 13 (lowest b s))
+  where
+    below : (num : ℕ) → num ≤ 13 → num ≤ lowest b s → (j : ℕ) → j < num → a ≤ j → applies s j ≡ false
+    below num k h j q g = at (le-or-lt b j)
+      where
+        at : (b ≤ j) ⊎ (j < b) → applies s j ≡ false
+        at (inl x) = below-lowest s b j x (omega arith) (omega arith)
+        at (inr x) = none j g x
+
+    go : (13 ≤ lowest b s) ⊎ (lowest b s < 13) → lowest a s ≡ lowest b s
+    go (inl h) =
+        lowest-past s a 13 (omega arith) (below 13 (lit≤ tt) h) refl
+        ∙ sym (lowest-past s b 13 l (λ j q g. below-lowest s b j g q (omega arith)) refl)
+    go (inr h) = lowest-at s a (lowest b s) (omega (arith, lowest-from s b)) (below (lowest b s) (omega arith) (omega arith)) h (lowest-applies s b h)
+
+pub judge-skip : (a b : ℕ) (s : List ℕ) → a ≤ b → b ≤ 13 → ((j : ℕ) → a ≤ j → j < b → applies s j ≡ false) → judgeFrom a s ≡ judgeFrom b s
+unfolding judgeFrom
+judge-skip a b s f l none = rw (lowest-skip a b s f l none) refl
 
 row-1 : (s : List ℕ) → holds s 1 0 ≡ rule1 s
 unfolding holds
 row-1 s = refl
 
-lowest-skip : (s : List ℕ) → rule1 s ≡ false → lowest 1 s ≡ lowest 2 s
-unfolding lowest
-lowest-skip s h =
-    let m : (k : ℕ) → 1 + suc k ≡ 2 + k = λ k. omega arith in
-    let e : first (λ i. applies s (1 + i)) 12 ≡ suc (first (λ i. applies s (2 + i)) 11) = first-skip (λ i. applies s (1 + i)) (λ i. applies s (2 + i)) 11 (whole-not s 1 refl (row-1 s ∙ h)) (λ k. ap (applies s) (m k)) in
-    rw (e, m (first (λ i. applies s (2 + i)) 11)) refl
-
-pub judge-skip : (s : List ℕ) → rule1 s ≡ false → judgeFrom 1 s ≡ judgeFrom 2 s
-unfolding judgeFrom
-judge-skip s h = rw (lowest-skip s h) refl
+-- where number 1 applies it is given, and where it does not the judgement starts at 2
+pub judge-second : (s : List ℕ) → rule1 s ≡ false → judgeFrom 1 s ≡ judgeFrom 2 s
+judge-second s h = judge-skip 1 2 s (lit≤ tt) (lit≤ tt) (λ j f l. let e : j ≡ 1 = omega arith in rw e (whole-not s 1 refl (row-1 s ∙ h)))
 
 pub judge-first : (s : List ℕ) → rule1 s ≡ true → judgeFrom 1 s ≡ Refused (record { number = 1; place = 0 })
 judge-first s h =
@@ -177,7 +186,7 @@ rightly a s r h = go (ltb (lowest a s) 13) refl h
 
 -- ---- and the other way round
 
-not-for-any : (s : List ℕ) (num : ℕ) → ((k : ℕ) → k < places s num → holds s num k ≡ false) → applies s num ≡ false
+pub not-for-any : (s : List ℕ) (num : ℕ) → ((k : ℕ) → k < places s num → holds s num k ≡ false) → applies s num ≡ false
 unfolding applies placeOf
 not-for-any s num h = rw (first-none (holds s num) (places s num) h) (le-ltb (places s num) (places s num) (omega arith))
 

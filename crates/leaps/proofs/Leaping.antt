@@ -29,6 +29,8 @@ use Rattle.tick.specs.declared.Run.{Run}
 use Rattle.tick.specs.Run.{MOST, leftOf, stateOf, recordOf}
 use Rattle.ready.specs.Ready.{someLeft}
 use Rattle.waiting.specs.Waiting.{Settled}
+use Rattle.remains.specs.Remains.{TOP}
+use Rattle.remains.proofs.Fewest.{least-none}
 use Rattle.leaps.proofs.ByNumbers.{settled-behind}
 use Rattle.leaps.specs.Finishes.{doneAt, finishAt, finishOf}
 use Rattle.tick.proofs.Moved.{moved-state, less-left, spend}
@@ -213,7 +215,7 @@ module _ (g : Graph) (A : AcceptedGraph g) where
     in-time-start : r .instant + sum (leftOf r) (g .n) ≤ MOST
     in-time-start = omega (arith, fresh .at-start, A .few-vertices, sum-most (leftOf r) 1000000 (g .n) (λ v l. omega (arith, fresh .short v l, A .short v l)))
 
-    module _ (w : Work) (is-run : w .run ≡ r) (is-busy : (v : ℕ) → isIn (w .busy) v ≡ someLeft (r .left) v)
+    module _ (w : Work) (is-run : w .run ≡ r) (is-least : w .least ≡ TOP) (is-busy : (v : ℕ) → isIn (w .busy) v ≡ someLeft (r .left) v)
         (settled : Settled (g .edge) (g .edges) (w .waiting) (isIn (w .busy)) (w .behind)) (is-table : w .finishes ≡ replicate 128 0) (long : length (w .run .left) ≡ 128) where
       sound-start : Sound g w
       sound-start = record {
@@ -221,6 +223,8 @@ module _ (g : Graph) (A : AcceptedGraph g) where
         past = rw is-run (fresh .past);
         fair = rw is-run fair-start;
         in-time = rw is-run in-time-start;
+        goes-on = λ v t. absurd (clash (rw is-run at t) (fresh .unmarked v));
+        fewest = rw is-least (least-none (leftOf (w .run)) (isIn (w .run .ran)) TOP (rw is-run (fresh .unmarked)));
         is-busy = rw is-run is-busy;
         is-behind = settled-behind g A (w .waiting) (isIn (w .busy)) (w .behind) settled;
         settled = settled;

@@ -11,8 +11,8 @@ use borrow.Author.Tests.{lt-ltb, le-ltb, ltb-true}
 use Rattle.model.specs.Places.{pick, any, every, count, sum, table}
 use Rattle.model.specs.Graph as model
 use Rattle.model.specs.ListSchedule.{finished, chosen, leap, Fair}
-use Rattle.model.proofs.Bools.{cases, clash, le-or-lt, left-of, right-of, not-true, not-is-true}
-use Rattle.model.proofs.Places.{any-intro, some-counted, count-less}
+use Rattle.model.proofs.Bools.{cases, clash, le-or-lt, both, left-of, right-of, or-left, not-true, not-is-true}
+use Rattle.model.proofs.Places.{some-counted, count-less}
 use Rattle.model.proofs.Sums.{sum-term}
 use Rattle.model.proofs.Tables.{table-length}
 use Rattle.model.proofs.Finished.{fin-left}
@@ -25,14 +25,22 @@ use Rattle.tick.specs.declared.Run.{Run}
 use Rattle.tick.specs.Run.{MOST, leftOf, stateOf, recordOf, over}
 use Rattle.ready.specs.Ready.{someLeft, isBehind}
 use Rattle.waiting.specs.Waiting.{entering, Unsettled, Settled}
-use Rattle.remains.specs.Remains.{lowered}
+use Rattle.remains.specs.Remains.{place, TOP, lowered, LeastFrom}
+use Rattle.remains.proofs.Fewest.{least-ext}
 use Rattle.choice.specs.Choice.{OfKinds, chosenBy}
-use Rattle.ready.proofs.Ancestors.{last-edge, behind-walk}
+use Rattle.ready.proofs.Ancestors.{last-edge, behind-walk, walk-behind}
 use Rattle.tick.proofs.Records.{still-left, moved-on, after-leap}
 use Rattle.tick.proofs.Ticking.{over-is, finished-by, on-is, on-able, on-runs}
 use Rattle.leaps.proofs.ByNumbers.{settled-behind}
 use Rattle.tick.proofs.Moved.{moved-state, moved-left, spend}
-use Rattle.leaps.specs.Leaps.{Work, LeastOf, Stamped, unfinished, Sound, Leapt}
+use Rattle.leaps.specs.Leaps.{Work, Stamped, unfinished, Sound, Leapt}
+
+-- r is the least value of f over the places of p
+record LeastOf (f : ℕ → ℕ) (p : ℕ → Bool) (r : ℕ) : Type 0 where
+  low : (v : ℕ) → p v ≡ true → r ≤ f v
+  who : ℕ
+  member : p who ≡ true
+  value : f who ≡ r
 
 not-or : (a b : Bool) → a || b ≡ not (not a && not b)
 not-or true b = refl
@@ -87,12 +95,35 @@ module _ (g : Graph) (A : AcceptedGraph g) where
     able-on : (v : ℕ) → on v ≡ true → able v ≡ true
     able-on = on-able g A (w .run) (sound .past) (isIn (w .busy)) (sound .is-busy) (isIn (w .behind)) (sound .is-behind) able is-able words W on is-on
 
-    pub some-on : any on 128 ≡ true
-    some-on =
-        let u = one-runs w sound some in
-        any-intro on 128 (u .0) (omega (arith, u .1, A .few-vertices)) (on-chosen (u .0) ∙ u .2)
+    -- whoever ran can go on, so it does
+    still-on : (v : ℕ) → isIn (w .run .ran) v ≡ true → on v ≡ true
+    unfolding chosenBy
+    still-on v t = is-on v ∙ or-left (able v && isIn (w .run .ran) v) _ (both (able v) (isIn (w .run .ran) v) (is-able v ∙ sound .goes-on v t) t)
 
-    module _ (d : ℕ) (least : LeastOf (leftOf (w .run)) on d) where
+    module _ (begins : ℕ → Bool) (is-begins : (v : ℕ) → begins v ≡ on v && not (isIn (w .run .ran) v)) (d : ℕ) (first : LeastFrom (leftOf (w .run)) begins (w .least) d) where
+      -- the fewest of those that go on or begin: one of them has so many left, since somebody runs
+      least : LeastOf (leftOf (w .run)) on d
+      least = go (first .is) (sound .fewest .is)
+        where
+          low : (v : ℕ) → on v ≡ true → (isIn (w .run .ran) v ≡ true) ⊎ (isIn (w .run .ran) v ≡ false) → d ≤ leftOf (w .run) v
+          low v t (inl r) = omega (arith, first .top, sound .fewest .low v r)
+          low v t (inr r) = first .low v (is-begins v ∙ both (on v) (not (isIn (w .run .ran) v)) t (ap not r))
+
+          by : (u : ℕ) → on u ≡ true → leftOf (w .run) u ≡ d → LeastOf (leftOf (w .run)) on d
+          by u t e = record { low = λ v h. low v h (cases (isIn (w .run .ran) v)); who = u; member = t; value = e }
+
+          somebody : d ≡ TOP → ⊥
+          somebody e =
+              let u = one-runs w sound some in
+              let t = on-chosen (u .0) ∙ u .2 in
+              omega (arith, low (u .0) t (cases (isIn (w .run .ran) (u .0))), sum-term (leftOf (w .run)) (u .0) (g .n) (u .1), sound .in-time)
+
+          go : (d ≡ w .least) ⊎ ((v : ℕ) × (begins v ≡ true) × (leftOf (w .run) v ≡ d))
+              → (w .least ≡ TOP) ⊎ ((v : ℕ) × (isIn (w .run .ran) v ≡ true) × (leftOf (w .run) v ≡ w .least)) → LeastOf (leftOf (w .run)) on d
+          go (inl e) (inl z) = absurd (somebody (e ∙ z))
+          go (inl e) (inr r) = by (r .0) (still-on (r .0) (r .1)) (r .2 ∙ sym e)
+          go (inr r) x = by (r .0) (left-of (on (r .0)) (not (isIn (w .run .ran) (r .0))) (sym (is-begins (r .0)) ∙ r .1)) (r .2)
+
       pub within : (v : ℕ) → on v ≡ true → (v < w .run .n) × (d ≤ leftOf (w .run) v)
       within v t =
           (rw (sound .agrees) (on-has v t .0), least .low v t)
@@ -177,10 +208,40 @@ module _ (g : Graph) (A : AcceptedGraph g) where
                 moved-over (isIn (w .busy) u) (isIn (w .behind) u) (isIn over u) (λ t. left-of (isIn (w .busy) u) (not (isIn (w .behind) u)) (sym (is-able u) ∙ able-on u (ran-on u t)))
                 ∙ ap (λ (b : Bool). (b || isIn (w .behind) u) || isIn over u) (sym (busy-is u))
 
-        module _ (hind new : Vset) (wait fins : List ℕ) (settled : Settled (g .edge) (g .edges) wait (isIn busy) hind)
+        module _ (few : ℕ) (is-few : LeastFrom (place left) (λ v. on v && not (eqb (getD left v 0) 0)) TOP few) (hind new : Vset) (wait fins : List ℕ) (settled : Settled (g .edge) (g .edges) wait (isIn busy) hind)
             (is-new : (v : ℕ) → isIn new v ≡ (isIn (w .busy) v || isIn (w .behind) v) && not (isIn busy v || isIn hind v))
             (stamps : Stamped (w .finishes) (isIn new) (w .run .instant + d) fins) where
-          pub leapt : Leapt g w (record { run = next; busy = busy; behind = hind; waiting = wait; finishes = fins })
+          -- who ran on has ticks left, and stands behind nobody: nobody has become busy
+          goes-on : (v : ℕ) → isIn ran v ≡ true → isIn busy v && not (isIn hind v) ≡ true
+          unfolding asModel
+          goes-on v t =
+              both (isIn busy v) (not (isIn hind v))
+              (busy-is v ∙ both (isIn (w .busy) v) (not (isIn over v)) (left-of (isIn (w .busy) v) (not (isIn (w .behind) v)) free) (right-of (on v) (not (isIn over v)) went))
+              (ap not (not-true (isIn hind v) (λ h. clash (behind h) (not-is-true (isIn (w .behind) v) (right-of (isIn (w .busy) v) (not (isIn (w .behind) v)) free)))))
+            where
+              went : on v && not (isIn over v) ≡ true
+              went = sym (is-ran .are v) ∙ t
+
+              runs : on v ≡ true
+              runs = left-of (on v) (not (isIn over v)) went
+
+              free : isIn (w .busy) v && not (isIn (w .behind) v) ≡ true
+              free = sym (is-able v) ∙ able-on v runs
+
+              behind : isIn hind v ≡ true → isIn (w .behind) v ≡ true
+              behind h =
+                  let x = behind-walk (isIn busy) v (sym (settled-behind g A wait (isIn busy) hind settled v) ∙ h) in
+                  sound .is-behind v ∙ walk-behind (isIn (w .busy)) (A .well-formed) (A .acyclic) (x .0) v (on-has v runs .0) (left-of (isIn (w .busy) (x .0)) (not (isIn over (x .0))) (sym (busy-is (x .0)) ∙ x .1)) (x .2)
+
+          fewest : LeastFrom (leftOf next) (isIn ran) TOP few
+          unfolding leftOf
+          fewest = least-ext (place left) (leftOf next) (λ v. on v && not (eqb (getD left v 0) 0)) (isIn ran) TOP few (λ v. sym (is-ran .are v ∙ ap (λ (b : Bool). on v && not b) (is-over v) ∙ turn (on v) (eqb (getD left v 0) 0))) (λ v h. refl) is-few
+            where
+              turn : (a b : Bool) → a && not (a && b) ≡ a && not b
+              turn true b = refl
+              turn false b = refl
+
+          pub leapt : Leapt g w (record { run = next; least = few; busy = busy; behind = hind; waiting = wait; finishes = fins })
           unfolding unfinished recordOf stateOf
           leapt = record {
             d = d;
@@ -194,6 +255,8 @@ module _ (g : Graph) (A : AcceptedGraph g) where
               past = λ v l. omega (arith, left-after v, sound .past v l);
               fair = still-fair;
               in-time = omega (arith, fewer-ticks, sound .in-time);
+              goes-on = goes-on;
+              fewest = fewest;
               is-busy = is-busy;
               is-behind = settled-behind g A wait (isIn busy) hind settled;
               settled = settled;

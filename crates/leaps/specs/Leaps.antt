@@ -2,15 +2,14 @@
 --
 -- A whole run between two leaps.
 --
---   Work                  the run: its record, who has ticks left, who stands behind them, the numbers of unfinished predecessors,
---                         and the finish instants
+--   Work                  the run: its record, the fewest ticks left of those that ran, who has ticks left, who stands behind them, the
+--                         numbers of unfinished predecessors, and the finish instants
 --   workOf g m left wait fins    the same, from what the code keeps of it
 --   ListsOf g cores words edge starts    the lists that a leap goes by are those of the graph
---   LeastOf f p r         r is the least value of f over the places of p
 --   stamped l p t v       t for a place of p, else what stands in l
 --   Stamped l p t new     the list `new` has that at each place
 --   unfinished w v        v has ticks left or stands behind one that has
---   Sound g w             the sets say what the record says; nothing runs out of bounds
+--   Sound g w             the sets say what the record says, and those that ran can go on; nothing runs out of bounds
 --   Leapt g old new       a leap: d single ticks, in each of which the same vertices run
 --   Fresh g r             a record at instant 0 whose times fit the graph
 --   Kept g e w            what holds of a run with the times e between two leaps
@@ -31,6 +30,7 @@ use Rattle.tick.specs.Run.{MOST, leftOf, stateOf, recordOf}
 use Rattle.ready.specs.Ready.{someLeft, isBehind}
 use Rattle.choice.specs.Choice.{OfKinds}
 use Rattle.waiting.specs.Waiting.{Settled}
+use Rattle.remains.specs.Remains.{TOP, LeastFrom}
 use Rattle.starts.specs.Starts.{firstEdge}
 use Rattle.leaps.specs.Finishes.{doneAt, finishAt, finishOf}
 use Rattle.leaps.specs.declared.Moment.{Moment}
@@ -38,6 +38,7 @@ use Rattle.leaps.specs.declared.Ended.{Ended}
 
 pub record Work : Type 0 where
   pub run : Run
+  pub least : ℕ
   pub busy : Vset
   pub behind : Vset
   pub waiting : List ℕ
@@ -45,19 +46,13 @@ pub record Work : Type 0 where
 
 abbrev pub workOf : Graph → Moment → List ℕ → List ℕ → List ℕ → Work
 workOf g m left waiting finishes =
-    record { run = record { n = g .n; instant = m .instant; left = left; ran = m .ran }; busy = m .busy; behind = m .behind; waiting = waiting; finishes = finishes }
+    record { run = record { n = g .n; instant = m .instant; left = left; ran = m .ran }; least = m .least; busy = m .busy; behind = m .behind; waiting = waiting; finishes = finishes }
 
 pub record ListsOf (g : Graph) (cores words edge starts : List ℕ) : Type 0 where
   pub cores-are : cores ≡ g .cores
   pub words-are : OfKinds words (g .kind) (g .n)
   pub edges-are : edge ≡ g .edge
   pub starts-are : starts ≡ table (firstEdge g) 129
-
-pub record LeastOf (f : ℕ → ℕ) (p : ℕ → Bool) (r : ℕ) : Type 0 where
-  pub low : (v : ℕ) → p v ≡ true → r ≤ f v
-  pub who : ℕ
-  pub member : p who ≡ true
-  pub value : f who ≡ r
 
 unfoldable pub stamped : List ℕ → (ℕ → Bool) → ℕ → ℕ → ℕ
 stamped l p t v = pick (p v) t (getD l v 0)
@@ -74,6 +69,8 @@ pub record Sound (g : Graph) (w : Work) : Type 0 where
   pub past : (v : ℕ) → g .n ≤ v → leftOf (w .run) v ≡ 0
   pub fair : Fair (asModel g) (stateOf (w .run))
   pub in-time : w .run .instant + sum (leftOf (w .run)) (g .n) ≤ MOST
+  pub goes-on : (v : ℕ) → isIn (w .run .ran) v ≡ true → isIn (w .busy) v && not (isIn (w .behind) v) ≡ true
+  pub fewest : LeastFrom (leftOf (w .run)) (isIn (w .run .ran)) TOP (w .least)
   pub is-busy : (v : ℕ) → isIn (w .busy) v ≡ someLeft (w .run .left) v
   pub is-behind : (v : ℕ) → isIn (w .behind) v ≡ isBehind (asModel g) (isIn (w .busy)) v
   pub settled : Settled (g .edge) (g .edges) (w .waiting) (isIn (w .busy)) (w .behind)

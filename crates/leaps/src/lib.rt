@@ -1,26 +1,26 @@
 // A whole run, by leaps: between two finishes the same vertices run in every tick, so that all those ticks are taken at once. The
 // cost does not grow with the execution times: each leap ends the ticks of one vertex at least.
 ghost use mathlib.Core.Path.{_≡_};
-ghost use mathlib.Core.Bool.{true};
-ghost use Prim.Native.Nat.{_<_, min};
+ghost use Prim.Native.Nat.{_<_};
 ghost use lib.ListN.{length, replicate};
-ghost use Rattle.model.specs.Places.{any, count, table};
+ghost use Rattle.model.specs.Places.{count, table};
 ghost use Rattle.graph.specs.Model.{AcceptedGraph};
 ghost use Rattle.vset.specs.Members.{isIn};
 ghost use Rattle.tick.specs.Run.{leftOf};
-ghost use Rattle.remains.specs.Remains.{place};
 ghost use Rattle.starts.specs.Starts.{firstEdge};
-ghost use Rattle.leaps.specs.Leaps.{LeastOf, Stamped, workOf, ListsOf, Sound, Leapt, Fresh, Kept, endOf};
+ghost use Rattle.leaps.specs.Leaps.{Stamped, workOf, ListsOf, Sound, Leapt, Fresh, Kept, endOf};
 use graph::Graph;
 use tick::Run;
 use vset::Vset;
 
-// A run between two leaps: the instant, the vertices that ran up to it and have ticks left, all that have ticks left, and those
-// that stand behind them; an unfinished vertex is in either of the last two. Three tables go with it, and a leap changes them where
-// they stand: what is left of each vertex, how many unfinished predecessors it waits for, and the finish instants.
+// A run between two leaps: the instant, the vertices that ran up to it and have ticks left, the fewest that one of these has left, all
+// that have ticks left, and those that stand behind them; an unfinished vertex is in either of the last two. Three tables go with it,
+// and a leap changes them where they stand: what is left of each vertex, how many unfinished predecessors it waits for, and the finish
+// instants.
 pub struct Moment {
     pub instant: u64,
     pub ran: Vset,
+    pub least: u32,
     pub busy: Vset,
     pub behind: Vset,
 }
@@ -37,28 +37,6 @@ pub struct Ended {
     pub finishes: [u32; 128],
 }
 
-fn lesser(a: u32, b: u32) -> u32
-    ensures { λ r. ⌜ r ≡ min a b ⌝ }
-{
-    if b < a { b } else { a }
-}
-
-// The fewest ticks left of a vertex in `on`, which has one.
-fn least(left: &[u32; 128], on: Vset) -> u32
-    requires { ⌜ any (isIn on) 128 ≡ true ⌝ }
-    ensures { λ r. ⌜ LeastOf (place (now (left .entry))) (isIn on) r ⌝ }
-{
-    let v = vset::lowest(on);
-    let mut best = left[v];
-    let mut rest = vset::without(on, v);
-    while !vset::is_empty(rest) {
-        let v = vset::lowest(rest);
-        best = lesser(best, left[v]);
-        rest = vset::without(rest, v);
-    }
-    best
-}
-
 // The instant for those that are finished now.
 fn stamp(finishes: &mut [u32; 128], new: Vset, instant: u32)
     requires { ⌜ length (now finishes) ≡ 128 ⌝ }
@@ -66,13 +44,15 @@ fn stamp(finishes: &mut [u32; 128], new: Vset, instant: u32)
 {
     let mut rest = new;
     while !vset::is_empty(rest) {
-        let v = vset::lowest(rest);
+        let next = vset::next(rest);
+        let v = next.v;
         finishes[v] = instant;
-        rest = vset::without(rest, v);
+        rest = next.rest;
     }
 }
 
-// As many ticks at once as the vertex that runs with the fewest left has. Those that have none left then are finished.
+// As many ticks at once as the vertex that runs with the fewest left has: of those that go on, that number is known from the leap
+// before, so that only those that begin are looked at. Those that have none left then are finished.
 fn leap(
     m: Moment,
     g: Graph,
@@ -94,8 +74,9 @@ fn leap(
     let was_behind = m.behind;
     let able = vset::minus(was_busy, was_behind);
     let on = choice::chosen(g.kinds, cores, words, able, m.ran);
-    let d = least(left, on);
-    let done = remains::lower(left, on, d);
+    let d = remains::least(left, vset::minus(on, m.ran), m.least);
+    let spent = remains::lower(left, on, d);
+    let done = spent.over;
     let ran = vset::minus(on, done);
     let busy = vset::minus(was_busy, done);
     let behind = waiting::settle(edge, starts, waiting, busy, was_behind, done);
@@ -108,6 +89,7 @@ fn leap(
     Moment {
         instant,
         ran,
+        least: spent.least,
         busy,
         behind,
     }
@@ -129,6 +111,7 @@ fn at_start(g: Graph, run: Run, edge: &[u16; 1024], starts: &[u16; 129]) -> Outs
     let moment = Moment {
         instant: run.instant,
         ran,
+        least: remains::TOP,
         busy,
         behind,
     };
@@ -136,17 +119,17 @@ fn at_start(g: Graph, run: Run, edge: &[u16; 1024], starts: &[u16; 129]) -> Outs
 }
 
 // Leap after leap until no vertex has ticks left: at most N of them.
-pub fn play(g: Graph, run: Run) -> Ended
+pub fn play(g: Graph, starts: &[u16; 129], run: Run) -> Ended
     requires { ⌜ AcceptedGraph g ⌝ }
     requires { ⌜ Fresh g run ⌝ }
+    requires { ⌜ now starts ≡ table (firstEdge g) 129 ⌝ }
     ensures { λ r. ⌜ r ≡ endOf g (leftOf run) ⌝ }
 {
     let kind = g.kind;
     let cores = g.cores;
     let edge = g.edge;
     let words = choice::of_kinds(&kind, g.n);
-    let starts = starts::starts(g);
-    let outset = at_start(g, run, &edge, &starts);
+    let outset = at_start(g, run, &edge, starts);
     let mut m = outset.moment;
     let mut left = run.left;
     let mut waiting = outset.waiting;
@@ -158,7 +141,7 @@ pub fn play(g: Graph, run: Run) -> Ended
             &cores,
             &words,
             &edge,
-            &starts,
+            starts,
             &mut left,
             &mut waiting,
             &mut finishes,

@@ -1,6 +1,5 @@
--- Sums ahead of the vertices, each once its successors' are known:
-pub mod Visits
-pub mod Sweeps
+-- Sums ahead of the vertices, each once its successors' are done:
+pub mod Along
 pub mod Sums
 -- The sum of the longest path:
 pub mod Complete

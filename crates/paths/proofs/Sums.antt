@@ -1,32 +1,34 @@
--- Why sweeps find the largest sums. A table in which each sum is the largest by an edge, over what its ends have, holds the largest sums ahead:
--- it bounds every path, by induction along the path, and going on to the end that gives the sum makes a path that attains it. And no vertex
--- is left out: after r sweeps each vertex is known from which every path has fewer than r edges, and no path has N.
-use mathlib.Core.Path.{_≡_, refl, ap, _∙_}
-use mathlib.Core.Bool.{Bool, true, false, not, _&&_}
+-- Why one pass along the order finds the largest sums. A table in which each sum is the largest by an edge, over what its ends have, holds the
+-- largest sums ahead: it bounds every path, by induction along the path, and going on to the end that gives the sum makes a path that
+-- attains it. From the last place of the order to the first, each sum is made so: the ends of a vertex's edges stand at later places, where
+-- the sums are done, and no later store changes them.
+use mathlib.Core.Path.{_≡_, ap, _∙_}
+use mathlib.Core.Bool.{Bool, true}
 use mathlib.Core.List.{List, _∷_}
-use mathlib.Core.Logic.{_⊎_, inl, inr, ⊎-elim}
-use Prim.Native.Nat.{ℕ, zero, suc, _+_, _*_, _≤_, _<_, zero-le}
+use mathlib.Core.Logic.{_⊎_, inl, inr}
+use Prim.Native.Nat.{ℕ, zero, suc, _+_, _-_, _*_, _≤_, _<_, zero-le}
 use native.Mathlib.Omega.{arith}
-use lib.Dec.{ltb}
-use lib.ListN.{getD, length, replicate, length-replicate, getD-replicate}
-use borrow.Author.Tests.{lt-ltb}
+use native.Mathlib.Decide.{ℕ-discrete}
+use lib.ListN.{getD, length, set, replicate, length-replicate, length-set}
+use lib.Seq.{getD-set-same, getD-set-other}
 use Rattle.model.specs.Places.{along, count}
 use Rattle.model.specs.Graph.{Edge, Source, source, WellFormed}
 use Rattle.model.specs.Graph as model
 use Rattle.model.specs.Cycle.{Acyclic}
 use Rattle.model.specs.Path.{ToSink, link}
-use Rattle.model.proofs.Bools.{clash, cases, le-or-lt, true-not, both}
+use Rattle.model.proofs.Bools.{le-or-lt}
 use Rattle.model.proofs.Places.{count-up, count-there}
 use Rattle.model.proofs.Tables.{table-at, padded-none, padded-past}
 use Rattle.model.proofs.Cycles.{ranked, rank-below}
-use Rattle.model.proofs.Paths.{to-sink, path-short, source-tells, unraised}
+use Rattle.model.proofs.Paths.{to-sink, source-tells, unraised}
 use Rattle.graph.specs.Model.{AcceptedGraph, asModel, from, to}
 use Rattle.graph.specs.declared.Graph.{Graph}
 use Rattle.graph.proofs.Edges.{edge-at, edge-place}
-use Rattle.starts.specs.Starts.{firstEdge}
+use Rattle.starts.specs.Starts.{comesFrom, firstEdge, Ordered}
 use Rattle.starts.proofs.Together.{start-within, start-below, start-above, start-later}
 use Rattle.paths.specs.Ahead.{weigh, sumAt, Light, Ahead, Summed, RowsOf, Weighed}
-use Rattle.paths.specs.Sweep.{marked, goes, Given, Follows, Laid, Known, Swept}
+use Rattle.paths.specs.Along.{goes, Given, Follows, Visitable}
+use Rattle.paths.proofs.Along.{follows-kept}
 
 -- ---- sums that follow from one another
 
@@ -66,34 +68,8 @@ only-source {G} W one u v l m a b = go (le-or-lt u v) (le-or-lt v u)
     go (inr x) y = absurd (omega (arith, one, two (source G) (G .n) v u x l (is v m b) (is u l a)))
     go (inl x) (inr y) = absurd (omega (arith, one, two (source G) (G .n) u v y m (is u l a) (is v m b)))
 
--- ---- the sweeps
+-- ---- the rows of an accepted graph
 
--- before the first sweep nothing is known
-known-none : (e st : List ℕ) (n : ℕ) (w : List ℕ) → 0 < n → n ≤ 128 → Known e st n w (replicate 128 0) (replicate 128 false) 0 0
-known-none e st n w some few = record {
-  size = length-replicate {A = ℕ} 128 0;
-  marks = length-replicate 128 false;
-  follows = λ u l d. absurd (none u l d);
-  last = some;
-  newest = λ u i l d a b q. none u l d;
-  small = λ v. omega (arith, zeros v);
-  past = λ v l. zeros v;
-}
-  where
-    none : (u : ℕ) → u < n → marked (replicate 128 false) u ≡ true → ⊥
-    none u l d = clash d (getD-replicate 128 u false false (omega arith))
-
-    zeros : (v : ℕ) → _≡_ {A = ℕ} (getD (replicate 128 0) v 0) 0
-    zeros v = ap (λ (l : List ℕ). getD l v 0) (padded-none 128 (λ i. 0)) ∙ padded-past 128 (λ i. 0) 0 v zero-le
-
--- known are those from which every path has fewer than r edges
-abbrev Within : model.Graph → List Bool → ℕ → Type 0
-Within G k r = (v : ℕ) → v < G .n → ((p : List ℕ) → ToSink G (v ∷ p) → length p < r) → marked k v ≡ true
-
-within-none : {G : model.Graph} → WellFormed G → Acyclic G → (k : List Bool) → Within G k 0
-within-none W A k v l h = let t = to-sink W (ranked W A) v l in absurd (omega (arith, h (t .0) (t .1)))
-
--- the rows of an accepted graph
 module _ {g : Graph} {e st : List ℕ} (R : RowsOf g e st) where
   starts-at : (u : ℕ) → u < 129 → getD st u 0 ≡ firstEdge g u
   starts-at u l = ap (λ (x : List ℕ). getD x u 0) (R .starts) ∙ table-at (firstEdge g) 129 u l
@@ -101,6 +77,10 @@ module _ {g : Graph} {e st : List ℕ} (R : RowsOf g e st) where
   pub goes-to : (i : ℕ) → goes e i ≡ to g i
   unfolding to
   goes-to i = ap (λ (l : List ℕ). goes l i) (R .edge)
+
+  comes-from : (i : ℕ) → comesFrom e i ≡ from g i
+  unfolding from
+  comes-from i = ap (λ (l : List ℕ). comesFrom l i) (R .edge)
 
   -- a place from the start of u up to that of u + 1 has an edge from u, and each edge from u has one of them
   pub row-edge : (u i : ℕ) → u < g .n → getD st u 0 ≤ i → i < getD st (u + 1) 0 → (i < g .edges) × (from g i ≡ u)
@@ -129,102 +109,153 @@ module _ {g : Graph} {e st : List ℕ} (R : RowsOf g e st) where
       high i m q (inl a) = absurd (omega (arith, start-above (R .accepted) (u + 1) i a m))
       high i m q (inr a) = omega (arith, starts-at (u + 1) (omega (arith, few)))
 
-  module _ {n : ℕ} (q : n ≡ g .n) where
-    within-all : (k : List Bool) → Within (asModel g) k n → (v : ℕ) → v < n → marked k v ≡ true
-    unfolding asModel
-    within-all k within v l =
-        within v (rw q at l) (λ p t. omega (arith, path-short (R .accepted .well-formed) (R .accepted .acyclic) t))
-
-    module _ {w : List ℕ} where
-      pub laid : Light (asModel g) w → Laid e st n w
-      unfolding asModel
-      laid light = record {
-        few = omega (arith, R .accepted .few-vertices);
-        rows = λ u l. let few = R .accepted .few-vertices in omega (arith, starts-at u (omega arith), starts-at (u + 1) (omega arith), start-later (g .edge) (g .edges) u);
-        within = λ u l. let few = R .accepted .few-vertices in omega (arith, starts-at (u + 1) (omega arith), start-within g (u + 1), R .accepted .few-edges);
-        ends = λ u i l a b. rw q (R .accepted .well-formed .to u (goes e i) (row-joins u i (rw q at l) a b));
-        light = λ v l. light v (rw q at l);
-      }
-
-      within-more : (r : ℕ) {s : List ℕ} (k k′ : List Bool) {h : ℕ} (all : Bool) → Swept e st n w k r s k′ h all → Within (asModel g) k r → Within (asModel g) k′ (r + 1)
-      unfolding asModel
-      within-more r k k′ all S within v l m =
-          S .taken v (rw q l)
-          (λ i a b. let d = row-joins v i l a b in
-          within (goes e i) (R .accepted .well-formed .to v (goes e i) d) (λ p t. omega (arith, m (goes e i ∷ p) (link d t))))
-
-      -- where all are known, the table holds the largest sums ahead, and the last one is the source
-      known-summed : {s : List ℕ} {k : List Bool} {h t : ℕ} → Known e st n w s k h t → ((u : ℕ) → u < n → marked k u ≡ true)
-          → Summed (asModel g) (weigh w) (record { ahead = s; head = h })
-      unfolding asModel
-      known-summed {s} {k} {h} K all = record {
-        longest = record { size = K .size; ahead = follows-ahead W (G .acyclic) (weigh w) (λ v. getD s v 0) most attained; past = λ v l. K .past v (rw q l) };
-        head = record {
-          known = known;
-          is-source = is-source;
-          most = λ u l d. let z = only-source W (G .one-source) u h l known d is-source in rw z (omega arith);
-          first = λ u l d. absurd (omega (arith, only-source W (G .one-source) u h (omega (arith, known)) known d is-source));
-        };
-      }
-        where
-          G : AcceptedGraph g
-          G = R .accepted
-
-          W : WellFormed (asModel g)
-          W = G .well-formed
-
-          known : h < g .n
-          known = rw q at (K .last)
-
-          follows : (u : ℕ) → u < g .n → Follows e w s k (getD st u 0) (getD st (u + 1) 0) (getD s u 0)
-          follows u l = let m : u < n = rw q l in K .follows u m (all u m)
-
-          is-source : Source (asModel g) h
-          is-source u d =
-              let r = row-of u h d in
-              let m : u < n = rw q (W .from u h d) in
-              K .newest u (r .0) m (all u m) (r .1) (r .2) (r .3)
-
-          most : (u v : ℕ) → Edge (asModel g) u v → weigh w v + getD s v 0 ≤ getD s u 0
-          most u v d = let r = row-of u v d in rw (r .3) at (follows u (W .from u v d) .most (r .0) (r .1) (r .2))
-
-          attained : (u : ℕ) → u < g .n → (getD s u 0 ≡ 0) ⊎ ((v : ℕ) × Edge (asModel g) u v × (getD s u 0 ≡ weigh w v + getD s v 0))
-          attained u l = go (follows u l .attained)
-            where
-              go : Given e w s (getD st u 0) (getD st (u + 1) 0) (getD s u 0)
-                  → (getD s u 0 ≡ 0) ⊎ ((v : ℕ) × Edge (asModel g) u v × (getD s u 0 ≡ weigh w v + getD s v 0))
-              go (inl z) = inl z
-              go (inr r) = inr (goes e (r .0), row-joins u (r .0) l (r .1) (r .2), r .3)
-
--- ---- sweep after sweep
-
-pub record Sweeping (e st : List ℕ) (n : ℕ) (w s : List ℕ) (k : List Bool) (h : ℕ) (all : Bool) (r : ℕ) : Type 0 where
-  pub known : Known e st n w s k h (128 * r)
-  pub within : (g : Graph) → Weighed g e st n w → Within (asModel g) k r
-  pub whole : all ≡ true → (u : ℕ) → u < n → marked k u ≡ true
-
-pub sweeping-none : {g : Graph} {e st : List ℕ} {n : ℕ} {w : List ℕ} → Weighed g e st n w → Sweeping e st n w (replicate 128 0) (replicate 128 false) 0 false 0
-unfolding asModel
-sweeping-none {g} {e} {st} {n} {w} M = record {
-  known = known-none e st n w (omega (arith, M .vertices, M .rows .accepted .some-vertex)) (omega (arith, M .vertices, M .rows .accepted .few-vertices));
-  within = λ x T. within-none (T .rows .accepted .well-formed) (T .rows .accepted .acyclic) (replicate 128 false);
-  whole = λ f. absurd (clash f refl);
-}
-
-module _ {e st : List ℕ} {n : ℕ} {w s : List ℕ} {k : List Bool} {h : ℕ} {all : Bool} {r : ℕ} (P : Sweeping e st n w s k h all r) where
-  pub sweeping-more : {s′ : List ℕ} {k′ : List Bool} {h′ : ℕ} {all′ : Bool} → Swept e st n w k r s′ k′ h′ all′ → Sweeping e st n w s′ k′ h′ all′ (r + 1)
-  sweeping-more {k′ = k′} {all′ = all′} S = record { known = S .known; within = λ g M. within-more (M .rows) (M .vertices) r k k′ all′ S (P .within g M); whole = S .whole }
-
-  -- the sweeps end where all are known, or where there were as many as there are vertices
-  pub sweeping-done : ltb r n && not all ≡ false → r ≤ n → (g : Graph) → Weighed g e st n w → Summed (asModel g) (weigh w) (record { ahead = s; head = h })
-  sweeping-done ended l g M =
-      let R = M .rows in
-      let q = M .vertices in
-      known-summed R q (P .known) (⊎-elim (P .whole) (λ f. within-all R q k (rw (full f) at (P .within g M))) (cases all))
+  -- what looking at the edges of u needs, where the sums are at most c
+  pub visitable : {w : List ℕ} → Light (asModel g) w → (s : List ℕ) (c : ℕ) → ((v : ℕ) → v < g .n → getD s v 0 ≤ c) → c ≤ 18000000000000000000 → (u : ℕ) → u < g .n → Visitable e st w s u
+  unfolding asModel
+  visitable light s c small room u l = record {
+    vertex = omega (arith, few);
+    row = omega (arith, starts-at u (omega (arith, few)), starts-at (u + 1) (omega (arith, few)), start-later (g .edge) (g .edges) u);
+    within = omega (arith, starts-at (u + 1) (omega (arith, few)), start-within g (u + 1), R .accepted .few-edges);
+    ends = λ i a b. omega (arith, ends i a b, few);
+    fits = λ i a b. let m = ends i a b in omega (arith, light (goes e i) m, small (goes e i) m);
+  }
     where
-      full : all ≡ false → r ≡ n
-      full f = go (le-or-lt n r)
+      few : g .n ≤ 128
+      few = R .accepted .few-vertices
+
+      ends : (i : ℕ) → getD st u 0 ≤ i → i < getD st (u + 1) 0 → goes e i < g .n
+      ends i a b = R .accepted .well-formed .to u (goes e i) (row-joins u i l a b)
+
+-- ---- along the order
+
+-- the sums of the vertices from place j on are done
+pub record Done (e st o : List ℕ) (n : ℕ) (w s : List ℕ) (j : ℕ) : Type 0 where
+  pub size : length s ≡ 128
+  pub follows : (k : ℕ) → j ≤ k → k < n → Follows e w s (getD st (getD o k 0) 0) (getD st (getD o k 0 + 1) 0) (getD s (getD o k 0) 0)
+  pub small : (v : ℕ) → getD s v 0 ≤ 720720000000 * (n - j)
+  pub past : (v : ℕ) → n ≤ v → getD s v 0 ≡ 0
+
+pub done-none : (e st o : List ℕ) (n : ℕ) (w : List ℕ) → Done e st o n w (replicate 128 0) n
+done-none e st o n w = record {
+  size = length-replicate {A = ℕ} 128 0;
+  follows = λ k l m. absurd (omega arith);
+  small = λ v. omega (arith, zeros v);
+  past = λ v l. zeros v;
+}
+  where
+    zeros : (v : ℕ) → _≡_ {A = ℕ} (getD (replicate 128 0) v 0) 0
+    zeros v = ap (λ (l : List ℕ). getD l v 0) (padded-none 128 (λ i. 0)) ∙ padded-past 128 (λ i. 0) 0 v zero-le
+
+module _ {g : Graph} {e st o : List ℕ} {n : ℕ} {w : List ℕ} (T : Weighed g e st o n w) where
+  O : Ordered e (g .edges) (g .n) o
+  O = T .order
+
+  known : (k : ℕ) → k < n → getD o k 0 < g .n
+  known k l = O .known k (rw (T .vertices) at l)
+
+  pub done-vertex : (k : ℕ) → k < n → getD o k 0 < 128
+  done-vertex k l = omega (arith, known k l, T .rows .accepted .few-vertices)
+
+  place-at : (k : ℕ) → k < n → O .place (getD o k 0) ≡ k
+  place-at k l = O .once k (rw (T .vertices) at l)
+
+  -- the edges of the vertex at place k go to later places
+  ahead : (k i : ℕ) → k < n → getD st (getD o k 0) 0 ≤ i → i < getD st (getD o k 0 + 1) 0 → k < O .place (goes e i)
+  ahead k i l a b =
+      let r = row-edge (T .rows) (getD o k 0) i (known k l) a b in
+      omega (arith, O .later i (r .0), ap (O .place) (comes-from (T .rows) i ∙ r .1), place-at k l)
+
+  module _ (s : List ℕ) (j k : ℕ) (next : j ≡ k + 1) (l : j ≤ n) (D : Done e st o n w s j) where
+    pub done-visitable : Visitable e st w s (getD o k 0)
+    done-visitable =
+        visitable (T .rows) (T .light) s (720720000000 * 128) (λ v m. omega (arith, D .small v, l, T .vertices, T .rows .accepted .few-vertices)) (omega arith) (getD o k 0) (known k (omega arith))
+
+    -- one place more is done: its sum is stored, and no edge from here on goes to it
+    pub done-more : (x : ℕ) → Follows e w s (getD st (getD o k 0) 0) (getD st (getD o k 0 + 1) 0) x → Done e st o n w (set s (getD o k 0) x) k
+    unfolding asModel
+    done-more x F = record {
+      size = length-set s u x ∙ D .size;
+      follows = λ i a b. follows i a b (ℕ-discrete i k);
+      small = λ v. small v (ℕ-discrete v u);
+      past = λ v a. getD-set-other s u v x 0 (λ q. omega (arith, q, known k m, T .vertices)) ∙ D .past v a;
+    }
+      where
+        u : ℕ
+        u = getD o k 0
+
+        m : k < n
+        m = omega arith
+
+        here : getD (set s u x) u 0 ≡ x
+        here = getD-set-same s u x 0 (omega (arith, D .size, done-vertex k m))
+
+        -- the place of each vertex is its own
+        own : (i : ℕ) → i < n → getD o i 0 ≡ u → i ≡ k
+        own i b q = omega (arith, ap (O .place) q, place-at i b, place-at k m)
+
+        apart : (i : ℕ) → k ≤ i → i < n → (h : ℕ) → getD st (getD o i 0) 0 ≤ h → h < getD st (getD o i 0 + 1) 0 → goes e h ≡ u → ⊥
+        apart i a b h c d q = omega (arith, ap (O .place) q, place-at k m, ahead i h b c d)
+
+        follows : (i : ℕ) → k ≤ i → i < n → Dec (i ≡ k) → Follows e w (set s u x) (getD st (getD o i 0) 0) (getD st (getD o i 0 + 1) 0) (getD (set s u x) (getD o i 0) 0)
+        follows i a b (yes q) = rw (q, here) (follows-kept e w s (getD st u 0) (getD st (u + 1) 0) u x x (apart k (omega arith) m) F)
+        follows i a b (no q) =
+            let v = getD o i 0 in
+            rw (getD-set-other s u v x 0 (λ z. q (own i b z)))
+            (follows-kept e w s (getD st v 0) (getD st (v + 1) 0) u x (getD s v 0) (apart i a b) (D .follows i (omega arith) b))
+
+        most : Given e w s (getD st u 0) (getD st (u + 1) 0) x → x ≤ 720720000000 * (n - k)
+        most (inl z) = omega arith
+        most (inr r) =
+            let v = goes e (r .0) in
+            omega (arith, r .3, T .light v (T .rows .accepted .well-formed .to u v (row-joins (T .rows) u (r .0) (known k m) (r .1) (r .2))), D .small v)
+
+        small : (v : ℕ) → Dec (v ≡ u) → getD (set s u x) v 0 ≤ 720720000000 * (n - k)
+        small v (yes q) = rw (q, here) (most (F .attained))
+        small v (no q) = omega (arith, getD-set-other s u v x 0 q, D .small v)
+
+  -- at the end the table holds the largest sums ahead, and no edge leads to the first vertex of the order
+  pub done-summed : (s : List ℕ) → Done e st o n w s 0 → Summed (asModel g) (weigh w) (record { ahead = s; head = getD o 0 0 })
+  unfolding asModel
+  done-summed s D = record {
+    longest = record { size = D .size; ahead = follows-ahead W (G .acyclic) (weigh w) (λ v. getD s v 0) most attained; past = λ v l. D .past v (rw (T .vertices) l) };
+    head = record {
+      known = first;
+      is-source = is-source;
+      most = λ u l d. let z = only-source W (G .one-source) u h l first d is-source in rw z (omega arith);
+      first = λ u l d. absurd (omega (arith, only-source W (G .one-source) u h (omega (arith, first)) first d is-source));
+    };
+  }
+    where
+      R : RowsOf g e st
+      R = T .rows
+
+      G : AcceptedGraph g
+      G = R .accepted
+
+      W : WellFormed (asModel g)
+      W = G .well-formed
+
+      h : ℕ
+      h = getD o 0 0
+
+      first : h < g .n
+      first = O .known 0 (G .some-vertex)
+
+      follows : (u : ℕ) → u < g .n → Follows e w s (getD st u 0) (getD st (u + 1) 0) (getD s u 0)
+      follows u l = rw (O .stands u l) at (D .follows (O .place u) zero-le (omega (arith, O .within u l, T .vertices)))
+
+      is-source : Source (asModel g) h
+      is-source u d =
+          let r = edge-place g u h d in
+          omega (arith, O .later (r .place) (r .within), ap (O .place) (goes-to R (r .place) ∙ r .is-to), O .once 0 (G .some-vertex))
+
+      most : (u v : ℕ) → Edge (asModel g) u v → weigh w v + getD s v 0 ≤ getD s u 0
+      most u v d = let r = row-of R u v d in rw (r .3) at (follows u (W .from u v d) .most (r .0) (r .1) (r .2))
+
+      attained : (u : ℕ) → u < g .n → (getD s u 0 ≡ 0) ⊎ ((v : ℕ) × Edge (asModel g) u v × (getD s u 0 ≡ weigh w v + getD s v 0))
+      attained u l = go (follows u l .attained)
         where
-          go : (n ≤ r) ⊎ (r < n) → r ≡ n
-          go (inl m) = omega arith
-          go (inr m) = absurd (clash (both (ltb r n) (not all) (lt-ltb r n m) (true-not all f)) ended)
+          go : Given e w s (getD st u 0) (getD st (u + 1) 0) (getD s u 0)
+              → (getD s u 0 ≡ 0) ⊎ ((v : ℕ) × Edge (asModel g) u v × (getD s u 0 ≡ weigh w v + getD s v 0))
+          go (inl z) = inl z
+          go (inr r) = inr (goes e (r .0), row-joins R u (r .0) l (r .1) (r .2), r .3)

@@ -2,27 +2,25 @@
 use mathlib.Core.Path.{_≡_, refl, sym, ap, _∙_}
 use mathlib.Core.List.{List, [], _∷_, _++_, append-assoc}
 use mathlib.Core.Logic.{_⊎_, inl, inr}
-use Prim.Native.Nat.{ℕ, suc, _+_, _≤_, _<_}
-use native.Mathlib.Numerals.{add-one}
+use Prim.Native.Nat.{ℕ, _+_, _≤_, _<_}
 use native.Mathlib.Omega.{arith}
 use native.Mathlib.Decide.{ℕ-discrete}
 use lib.ListN.{getD, length, set, drop, length-append, length-set}
-use lib.Seq.{drop-cons, set-at}
 use Rattle.model.specs.Places.{along}
 use Rattle.model.specs.Graph.{Edge, Sink}
 use Rattle.model.specs.Graph as model
 use Rattle.model.specs.Path.{ToSink, end, link}
 use Rattle.model.proofs.Bools.{le-or-lt}
+use Rattle.model.proofs.Tables.{set-next}
 use Rattle.model.proofs.Cycles.{ranked}
 use Rattle.model.proofs.Paths.{to-sink, path-short}
 use Rattle.graph.specs.Model.{asModel}
 use Rattle.graph.specs.declared.Graph.{Graph}
 use Rattle.graph.proofs.Edges.{to-ascends}
 use Rattle.paths.specs.Ahead.{weigh, Longest, RowsOf}
-use Rattle.paths.specs.Sweep.{goes, Visitable}
+use Rattle.paths.specs.Along.{goes, Visitable}
 use Rattle.paths.specs.Trace.{Trace, stop, on, Traceable, Traced, Keeps, Onward, by-edge, at-end}
-use Rattle.paths.proofs.Visits.{visitable}
-use Rattle.paths.proofs.Sums.{goes-to, row-edge, row-joins, row-of, laid}
+use Rattle.paths.proofs.Sums.{goes-to, row-edge, row-joins, row-of, visitable}
 use Rattle.paths.proofs.Complete.{ahead-small}
 
 -- one edge more that does not keep the sum
@@ -52,7 +50,7 @@ module _ {g : Graph} {e st w s : List ℕ} {h : ℕ} {old : List ℕ} (T : Trace
   unfolding asModel
   trace-visitable =
       let G = R .accepted in
-      visitable (laid R refl (T .light)) s 92252160000000 (ahead-small (G .well-formed) (G .acyclic) (G .few-vertices) w s (T .light) L) (omega arith) u known
+      visitable R (T .light) s 92252160000000 (ahead-small (G .well-formed) (G .acyclic) (G .few-vertices) w s (T .light) L) (omega arith) u known
 
   -- an edge of a longest path keeps the sum
   kept : (x : ℕ) (p : List ℕ) → Edge (asModel g) u x → ToSink (asModel g) (x ∷ p) → along (weigh w) (x ∷ p) ≡ getD s u 0 → weigh w x + getD s x 0 ≡ getD s u 0
@@ -114,14 +112,6 @@ tracing-none T = record {
   ended = λ m. absurd (omega (arith, T .vertex, T .rows .accepted .few-vertices));
 }
 
--- a place more
-next-set : (old p : List ℕ) (v n : ℕ) → length p ≡ n → n < length old → set (p ++ drop n old) n v ≡ (p ++ (v ∷ [])) ++ drop (n + 1) old
-next-set old p v n e l =
-    ap (λ (q : List ℕ). set (p ++ q) n v) (drop-cons old n 0 l)
-    ∙ set-at p (getD old n 0) (drop (suc n) old) v n e
-    ∙ sym (append-assoc p (v ∷ []) (drop (suc n) old))
-    ∙ ap (λ (k : ℕ). (p ++ (v ∷ [])) ++ drop k old) (sym (add-one n))
-
 module _ {g : Graph} {e st w s : List ℕ} {h : ℕ} {old : List ℕ} (T : Traceable g e st w s h old) (new : List ℕ) (n v : ℕ) (P : Tracing (asModel g) (weigh w) (weigh s) h old new n v) where
   -- a path has at most N vertices, so there is a place left
   pub tracing-room : v < 128 → n < g .n
@@ -138,7 +128,7 @@ module _ {g : Graph} {e st w s : List ℕ} {h : ℕ} {old : List ℕ} (T : Trace
         done = P .done ++ (v ∷ []);
         count = omega (arith, P .count, length-append (P .done) (v ∷ []));
         size = length-set new n v ∙ P .size;
-        held = ap (λ (q : List ℕ). set q n v) (P .held) ∙ next-set old (P .done) v n (sym (P .count)) (omega (arith, tracing-room l, T .room));
+        held = ap (λ (q : List ℕ). set q n v) (P .held) ∙ set-next old (P .done) v n (sym (P .count)) (omega (arith, tracing-room l, T .room));
         known = λ k. T .rows .accepted .well-formed .to v x (N .edge k);
         to-sink = λ k p t. rw (append-assoc (P .done) (v ∷ []) (x ∷ p)) (P .to-sink l (x ∷ p) (link (N .edge k) t));
         trace = λ k p t. rw (append-assoc (P .done) (v ∷ []) (x ∷ p)) (P .trace l (x ∷ p) (on (N .edge k) (N .keeps k) (N .least k) t));

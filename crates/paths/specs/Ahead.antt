@@ -11,7 +11,7 @@
 --   Head G value h    of the sources, h has the largest value; of several, it is the first
 --   Summed G f r      r has both: the table, and the source where the longest path begins
 --   RowsOf g e st     e is the edge list of the accepted graph g, and st the starts of its vertices' edges
---   Weighed g e st n w    the same; n is the number of its vertices, and w are light weights for them
+--   Weighed g e st o n w  the same; o is an order of its vertices along the edges, n is their number, and w are light weights for them
 use mathlib.Core.Path.{_≡_}
 use mathlib.Core.List.{List, _∷_}
 use Prim.Native.Nat.{ℕ, _+_, _≤_, _<_}
@@ -21,7 +21,7 @@ use Rattle.model.specs.Graph.{Graph, Source}
 use Rattle.model.specs.Path.{ToSink}
 use Rattle.graph.specs.declared.Graph as reader
 use Rattle.graph.specs.Model.{AcceptedGraph, asModel}
-use Rattle.starts.specs.Starts.{firstEdge}
+use Rattle.starts.specs.Starts.{firstEdge, Ordered}
 use Rattle.paths.specs.declared.ahead.Sums.{Sums}
 
 abbrev pub weigh : List ℕ → ℕ → ℕ
@@ -59,7 +59,8 @@ pub record RowsOf (g : reader.Graph) (e st : List ℕ) : Type 0 where
   pub edge : e ≡ g .edge
   pub starts : st ≡ table (firstEdge g) 129
 
-pub record Weighed (g : reader.Graph) (e st : List ℕ) (n : ℕ) (w : List ℕ) : Type 0 where
+pub record Weighed (g : reader.Graph) (e st o : List ℕ) (n : ℕ) (w : List ℕ) : Type 0 where
   pub rows : RowsOf g e st
+  pub order : Ordered e (g .edges) (g .n) o
   pub vertices : n ≡ g .n
   pub light : Light (asModel g) w

@@ -16,7 +16,7 @@ use Rattle.model.specs.Graph.{Graph, Edge, Sink}
 use Rattle.graph.specs.declared.Graph as reader
 use Rattle.graph.specs.Model.{asModel}
 use Rattle.paths.specs.Ahead.{weigh, Light, Longest, RowsOf}
-use Rattle.paths.specs.Sweep.{goes, sumBy}
+use Rattle.paths.specs.Along.{goes, sumBy}
 
 pub data Trace (G : Graph) (f s : ℕ → ℕ) : ℕ → List ℕ → Type 0 where
   stop : {u : ℕ} → u < G .n → Sink G u → Trace G f s u []

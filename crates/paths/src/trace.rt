@@ -2,7 +2,7 @@
 ghost use Rattle.graph.specs.declared.Graph.{Graph};
 ghost use Rattle.graph.specs.Model.{asModel};
 ghost use Rattle.paths.specs.Ahead.{weigh};
-ghost use Rattle.paths.specs.Sweep.{Visitable};
+ghost use Rattle.paths.specs.Along.{Visitable};
 ghost use Rattle.paths.specs.Trace.{Traceable, Traced, Onward};
 use starts::to;
 

@@ -1,4 +1,5 @@
 -- Laws of the reader.
 pub mod Scan
 pub mod Taking
+pub mod Laying
 pub mod Outcomes

@@ -1,22 +1,20 @@
 -- The first place that a number holds for is found on the records, or on the counts.
-use mathlib.Core.Path.{_≡_, refl, sym, ap, _∙_, fun-ext}
-use mathlib.Core.Logic.{_⊎_, inl, inr}
+use mathlib.Core.Path.{_≡_, refl, ap, fun-ext}
 use mathlib.Core.Bool.{Bool, true, false, _||_}
 use mathlib.Core.List.{List}
 use Prim.Native.Nat.{ℕ, _≤_, _<_}
 use native.Mathlib.Omega.{arith}
 use native.Mathlib.Decide.{ℕ-discrete}
 use lib.Dec.{eqb, ltb}
-use borrow.Author.Tests.{le-ltb, ne-eqb, eqb-true, eqb-false}
-use Rattle.model.specs.Places.{pick, first, any}
-use Rattle.model.proofs.Bools.{cases, or-neither}
-use Rattle.model.proofs.Places.{first-none, any-false}
+use borrow.Author.Tests.{ne-eqb, eqb-true, eqb-false}
+use Rattle.model.specs.Places.{pick, first}
+use Rattle.model.proofs.Bools.{or-neither}
 use Rattle.graph.specs.File.{records, many}
-use Rattle.graph.specs.Rules.{holds, perRecord, places, rule2, rule3, rule4, rule5, rule6, rule7, rule8, rule9, rule10}
-use Rattle.graph.specs.Judge.{placeOf, applies}
+use Rattle.graph.specs.Rules.{holds, perRecord, places, rule4, rule6, rule8}
+use Rattle.graph.specs.Judge.{placeOf}
 use Rattle.records.specs.Passing.{Counted}
 use Rattle.records.specs.declared.Counts.{Counts}
-use Rattle.rules.specs.Rows.{ofRecord, faulty, ofCounts}
+use Rattle.rules.specs.Rows.{ofRecord, ofCounts}
 
 -- the rows that are tested for each record, and those that are tested on the counts
 record-row : (s : List ℕ) (num k : ℕ) → perRecord num ≡ true → ofRecord s num k ≡ holds s num k
@@ -62,37 +60,3 @@ pub place-counts : (s : List ℕ) (num : ℕ) (c : Counts) → Counted s c → 2
     → pick (ofCounts c num) 0 1 ≡ placeOf s num
 unfolding placeOf places first
 place-counts s num c n l u h = rw (h, counts-row s num 0 c n l u h) refl
-
--- where no record and no count is at fault, no number up to 10 applies
-neither : (b x y : Bool) → x ≡ false → y ≡ false → pick b x y ≡ false
-neither true x y p q = p
-neither false x y p q = q
-
-record-fine : (s : List ℕ) (k num : ℕ) → faulty s k ≡ false → ofRecord s num k ≡ false
-unfolding faulty ofRecord
-record-fine s k num h =
-    let f = or-neither (rule2 s k || rule3 s k) _ h in
-    let x = or-neither (rule2 s k) (rule3 s k) (f .0) in
-    let y = or-neither (rule5 s k) _ (f .1) in
-    let z = or-neither (rule7 s k) _ (y .1) in
-    let w = or-neither (rule9 s k) (rule10 s k) (z .1) in
-    neither (eqb num 2) _ _ (x .0) (neither (eqb num 3) _ _ (x .1) (neither (eqb num 5) _ _ (y .0) (neither (eqb num 7) _ _ (z .0) (neither (eqb num 9) _ _ (w .0) (w .1)))))
-
-counts-fine : (c : Counts) (num : ℕ) → ofCounts c 4 || (ofCounts c 6 || ofCounts c 8) ≡ false → ofCounts c num ≡ false
-unfolding ofCounts
-counts-fine c num h =
-    let x = or-neither (ofCounts c 4) _ h in
-    let y = or-neither (ofCounts c 6) (ofCounts c 8) (x .1) in
-    neither (eqb num 4) _ _ (x .0) (neither (eqb num 6) _ _ (y .0) (y .1))
-
-pub none-applies : (s : List ℕ) (c : Counts) → Counted s c
-    → (ofCounts c 4 || (ofCounts c 6 || ofCounts c 8)) || any (faulty s) (records s) ≡ false → (num : ℕ) → 2 ≤ num → num < 11 → applies s num ≡ false
-unfolding applies places
-none-applies s c n h num l u = go (or-neither (ofCounts c 4 || (ofCounts c 6 || ofCounts c 8)) (any (faulty s) (records s)) h) (cases (perRecord num))
-  where
-    go : (ofCounts c 4 || (ofCounts c 6 || ofCounts c 8) ≡ false) × (any (faulty s) (records s) ≡ false) → (perRecord num ≡ true) ⊎ (perRecord num ≡ false)
-        → ltb (placeOf s num) (places s num) ≡ false
-    go f (inl e) =
-        let at : placeOf s num ≡ records s = sym (place-record s num e) ∙ first-none (ofRecord s num) (records s) (λ k b. record-fine s k num (any-false (faulty s) (records s) k b (f .1))) in
-        rw (at, e) (le-ltb (records s) (records s) (omega arith))
-    go f (inr e) = rw (← place-counts s num c n l u e, counts-fine c num (f .0), e) refl

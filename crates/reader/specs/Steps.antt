@@ -2,36 +2,55 @@
 --
 -- What the parts of the reader give each other.
 --
---   Fitting s c          c holds how many records there are of each kind, and the counts are within bounds
---   lowestIn a s         the lowest number from a to 10 that applies, with its place; or 11
---   refusedWith r        a refusal, with the graph beside it
---   takenOf g            the answer of the numbers 11 and 12 for a graph, and the graph beside it
+--   Quiet s              no number from 2 to 10 holds for any place
+--   Faultless s c        the same, and c holds how many records there are of each kind
+--   lowestIn s           the lowest number from 2 to 10 that applies, with its place; or 11
+--   Found s r            r has that, and where it is 11 the counts
+--   Numbered s r e st o  r is the number 11 or 12 that applies, or 13; the edges are listed, with their starts, and with 13 the order
+--   Edged s h e st o     what is known of an accepted file: the counts, the edges, their starts, and an order along them
+use mathlib.Core.Path.{_≡_}
+use mathlib.Core.Bool.{false}
 use mathlib.Core.List.{List}
-use Prim.Native.Nat.{ℕ, _+_, _≤_, min}
+use Prim.Native.Nat.{ℕ, _≤_, _<_, min}
 use lib.Dec.{ltb}
-use Rattle.model.specs.Places.{pick}
-use Rattle.graph.specs.File.{records, noGraph}
+use Rattle.model.specs.Places.{pick, table}
+use Rattle.graph.specs.File.{many, graphOf}
+use Rattle.graph.specs.Rules.{holds, places}
 use Rattle.graph.specs.Judge.{placeOf, lowest}
 use Rattle.graph.specs.declared.Refusal.{Refusal}
-use Rattle.graph.specs.declared.Answer.the-variants.{Accepted, Refused}
-use Rattle.graph.specs.declared.Graph.{Graph}
-use Rattle.graph.specs.declared.Taken.{Taken}
 use Rattle.records.specs.Passing.{Counted}
 use Rattle.records.specs.declared.Counts.{Counts}
+use Rattle.starts.specs.Starts.{firstEdge, Ordered}
 use Rattle.cycle.specs.Last.{lastOf}
+use Rattle.reader.specs.declared.Header.{Header}
+use Rattle.reader.specs.declared.numbers.Judged.{Judged}
 
-pub record Fitting (s : List ℕ) (c : Counts) : Type 0 where
+abbrev pub Quiet : List ℕ → Type 0
+Quiet s = (num : ℕ) → 2 ≤ num → num < 11 → (k : ℕ) → k < places s num → holds s num k ≡ false
+
+pub record Faultless (s : List ℕ) (c : Counts) : Type 0 where
   pub counted : Counted s c
-  pub few-kinds : c .kinds ≤ 10
-  pub few-vertices : c .n ≤ 128
-  pub few-edges : c .edges ≤ 1024
-  pub all-fit : c .kinds + c .n + c .edges ≤ records s
+  pub quiet : Quiet s
 
-unfoldable pub lowestIn : ℕ → List ℕ → Refusal
-lowestIn a s = record { number = min (lowest a s) 11; place = pick (ltb (lowest a s) 11) (placeOf s (lowest a s)) 0 }
+unfoldable pub lowestIn : List ℕ → Refusal
+lowestIn s = record { number = min (lowest 2 s) 11; place = pick (ltb (lowest 2 s) 11) (placeOf s (lowest 2 s)) 0 }
 
-abbrev pub refusedWith : Refusal → Taken
-refusedWith r = record { answer = Refused r; graph = noGraph }
+pub record Found (s : List ℕ) (r : Judged) : Type 0 where
+  pub number : r .refusal ≡ lowestIn s
+  pub counted : Counted s (r .counts)
 
-unfoldable pub takenOf : Graph → Taken
-takenOf g = pick (ltb (lastOf g) 13) (refusedWith (record { number = lastOf g; place = 0 })) (record { answer = Accepted; graph = g })
+pub record Listed (s e st : List ℕ) : Type 0 where
+  pub edge : e ≡ graphOf s .edge
+  pub starts : st ≡ table (firstEdge (graphOf s)) 129
+
+pub record Numbered (s : List ℕ) (r : ℕ) (e st o : List ℕ) : Type 0 where
+  pub number : r ≡ lastOf (graphOf s)
+  pub listed : Listed s e st
+  pub order : r ≡ 13 → Ordered (graphOf s .edge) (many s 2) (many s 1) o
+
+pub record Edged (s : List ℕ) (h : Header) (e st o : List ℕ) : Type 0 where
+  pub kinds : h .kinds ≡ many s 0
+  pub vertices : h .n ≡ many s 1
+  pub edges : h .edges ≡ many s 2
+  pub listed : Listed s e st
+  pub order : Ordered (graphOf s .edge) (many s 2) (many s 1) o

@@ -1,83 +1,195 @@
 // The reader: a file's graph, or the lowest number that says no with its first place.
 ghost use mathlib.Core.Path.{_≡_};
 ghost use Prim.Native.Nat.{_≤_};
-ghost use lib.ListN.{length};
-ghost use Rattle.graph.specs.File.{graphOf};
-ghost use Rattle.graph.specs.Judge.{judgeFrom, takenFrom, readOf};
-ghost use Rattle.reader.specs.Steps.{Fitting, refusedWith, takenOf};
+ghost use lib.ListN.{length, replicate};
+ghost use Rattle.model.specs.Places.{padded};
+ghost use Rattle.graph.specs.File.{noGraph};
+ghost use Rattle.graph.specs.Judge.{judgeFrom, readOf};
+ghost use Rattle.graph.specs.declared.Answer.the-variants.{Accepted, Refused};
+ghost use Rattle.reader.specs.Steps.{Faultless, Numbered, Edged};
+ghost use Rattle.reader.specs.Laid.{Blank, TakenInto};
 
-mod judge; // judge.rt: the lowest number up to 10 that applies
-mod lists; // lists.rt: the counts and lists of a file as one value
+mod lists; // lists.rt: the lists of a file
+mod numbers; // numbers.rt: the lowest number up to 10 that applies
 
 use graph::Answer;
+use graph::Graph;
 use graph::Refusal;
 use graph::Taken;
 use records::Counts;
 
-// A refusal, with the graph that stands beside it.
-fn refused(r: Refusal) -> Taken
-    ensures { λ t. ⌜ t ≡ refusedWith r ⌝ }
+// The answer, and how many types, vertices and edges there are. The lists are lent: whoever needs them has the tables.
+pub struct Header {
+    pub answer: Answer,
+    pub kinds: usize,
+    pub n: usize,
+    pub edges: usize,
+}
+
+fn refused(r: Refusal) -> Header
+    ensures { λ h. ⌜ h .answer ≡ Refused r ⌝ }
 {
-    let graph = lists::no_graph();
-    Taken {
+    Header {
         answer: Answer::Refused(r),
-        graph,
+        kinds: 0,
+        n: 0,
+        edges: 0,
     }
 }
 
 // A number that is said of the whole file and not of a record has place 0.
-fn refused_whole(number: u32) -> Taken
-    ensures { λ t. ⌜ t ≡ refusedWith (record { number = number; place = 0 }) ⌝ }
+fn refused_whole(number: u32) -> Header
+    ensures { λ h. ⌜ h .answer ≡ Refused (record { number = number; place = 0 }) ⌝ }
 {
     refused(Refusal { number, place: 0 })
 }
 
-// The last two numbers, 11 and 12, are said of the graph and not of records: they are tested on its edges, and the graph is made
-// where neither applies.
-fn judged(file: &[u8], c: Counts) -> Taken
-    requires { ⌜ Fitting (now file) c ⌝ }
-    ensures { λ t. ⌜ t ≡ takenOf (graphOf (now (file .entry))) ⌝ }
+// The last two numbers, 11 and 12, are said of the graph and not of records: of the edges, as they are listed.
+fn ended(
+    file: &[u8],
+    c: Counts,
+    edge: &mut [u16; 1024],
+    starts: &mut [u16; 129],
+    order: &mut [u8; 128],
+) -> u32
+    requires { ⌜ Faultless (now file) c ⌝ }
+    requires { ⌜ (now edge ≡ replicate 1024 0) × (length (now order) ≡ 128) ⌝ }
+    ensures { λ r. ⌜ Numbered (now (file .entry)) r (now (edge .exit)) (now (starts .exit)) (now (order .exit)) ⌝ }
 {
-    let edge = lists::edge_of(file, c.kinds + c.n, c.edges);
-    let number = cycle::last_number(&edge, c.n, c.edges);
+    lists::edge_of(file, c.kinds + c.n, c.edges, edge);
+    *starts = starts::starts(edge, c.edges);
+    cycle::last_number(edge, starts, c.n, c.edges, order)
+}
+
+// The answer of the numbers from 2 on.
+fn take_edges(
+    file: &[u8],
+    edge: &mut [u16; 1024],
+    starts: &mut [u16; 129],
+    order: &mut [u8; 128],
+) -> Header
+    requires { ⌜ length (now file) ≤ 9320 ⌝ }
+    requires { ⌜ (now edge ≡ replicate 1024 0) × (length (now order) ≡ 128) ⌝ }
+    ensures { λ h. ⌜ h .answer ≡ judgeFrom 2 (now (file .entry)) ⌝ }
+    ensures { λ h. ⌜ (judgeFrom 2 (now (file .entry)) ≡ Accepted → Edged (now (file .entry)) h (now (edge .exit)) (now (starts .exit)) (now (order .exit))) ⌝ }
+{
+    let found = numbers::lowest(file);
+    let refusal = found.refusal;
+    if refusal.number < 11 {
+        return refused(refusal);
+    }
+    let c = found.counts;
+    let number = ended(file, c, edge, starts, order);
     if number < 13 {
         return refused_whole(number);
     }
-    let graph = lists::lists(file, c, edge);
-    Taken {
+    Header {
         answer: Answer::Accepted,
-        graph,
+        kinds: c.kinds,
+        n: c.n,
+        edges: c.edges,
     }
 }
 
-// The answer of the numbers from `least` on, and the graph beside it. The numbers up to 10 are tested on the file's records.
-fn take_from(file: &[u8], least: u32) -> Taken
-    requires { ⌜ (2 ≤ least) × (least ≤ 4) × (length (now file) ≤ 9320) ⌝ }
-    ensures { λ t. ⌜ t ≡ takenFrom least (now (file .entry)) ⌝ }
+// The answer of the numbers from 2 on, for whoever makes a file and asks before handing it over.
+pub fn judge(file: &[u8]) -> Answer
+    requires { ⌜ length (now file) ≤ 9320 ⌝ }
+    ensures { λ r. ⌜ r ≡ judgeFrom 2 (now (file .entry)) ⌝ }
 {
-    let c = records::count_all(file);
-    let found = judge::lowest(file, least, c);
-    if found.number < 11 {
-        return refused(found);
-    }
-    judged(file, c)
+    let mut edge = [0u16; 1024];
+    let mut starts = [0u16; 129];
+    let mut order = [0u8; 128];
+    let h = take_edges(file, &mut edge, &mut starts, &mut order);
+    h.answer
 }
 
-// The answer of the numbers from `least` on, for the writer, which judges the file that it would write from number 4 on.
-pub fn judge_from(file: &[u8], least: u32) -> Answer
-    requires { ⌜ (2 ≤ least) × (least ≤ 4) × (length (now file) ≤ 9320) ⌝ }
-    ensures { λ r. ⌜ r ≡ judgeFrom least (now (file .entry)) ⌝ }
-{
-    let t = take_from(file, least);
-    t.answer
-}
-
-// The graph of a file, or the number that says no and its place. Where number 1 applies, nothing else is looked at.
-pub fn read(file: &[u8]) -> Taken
-    ensures { λ r. ⌜ r ≡ readOf (now (file .entry)) ⌝ }
+// The graph of a file in lists that are lent, with where each vertex's edges begin and an order of the vertices along the edges: for our
+// own layers, so that nothing is copied from call to call and nothing is found twice. Where number 1 applies, nothing else is looked at.
+pub fn take(
+    file: &[u8],
+    cores: &mut [u8; 10],
+    kind: &mut [u8; 128],
+    wcet: &mut [u32; 128],
+    edge: &mut [u16; 1024],
+    starts: &mut [u16; 129],
+    order: &mut [u8; 128],
+) -> Header
+    requires { ⌜ Blank (now cores) (now kind) (now wcet) (now edge) (now order) ⌝ }
+    ensures { λ h. ⌜ TakenInto (now (file .entry)) h (now (cores .exit)) (now (kind .exit)) (now (wcet .exit)) (now (edge .exit)) (now (starts .exit)) (now (order .exit)) ⌝ }
 {
     if rules::wrong_length(file) {
         return refused_whole(1);
     }
-    take_from(file, 2)
+    let h = take_edges(file, edge, starts, order);
+    let answer = h.answer;
+    match answer {
+        Answer::Refused(r) => refused(r),
+        Answer::Accepted => {
+            lists::cores_of(file, 0, h.kinds, cores);
+            lists::kind_of(file, h.kinds, h.n, kind);
+            lists::wcet_of(file, h.kinds, h.n, wcet);
+            h
+        }
+    }
+}
+
+// What stands beside a refusal.
+fn no_graph() -> Graph
+    ensures { λ r. ⌜ r ≡ noGraph ⌝ }
+{
+    Graph {
+        kinds: 0,
+        n: 0,
+        edges: 0,
+        cores: [0; 10],
+        kind: [0; 128],
+        wcet: [0; 128],
+        edge: [0; 1024],
+    }
+}
+
+// The graph of a file, or the number that says no and its place.
+pub fn read(file: &[u8]) -> Taken
+    ensures { λ r. ⌜ r ≡ readOf (now (file .entry)) ⌝ }
+{
+    let mut cores = [0u8; 10];
+    let mut kind = [0u8; 128];
+    let mut wcet = [0u32; 128];
+    let mut edge = [0u16; 1024];
+    let mut starts = [0u16; 129];
+    let mut order = [0u8; 128];
+    let h = take(
+        file,
+        &mut cores,
+        &mut kind,
+        &mut wcet,
+        &mut edge,
+        &mut starts,
+        &mut order,
+    );
+    let answer = h.answer;
+    match answer {
+        Answer::Refused(r) => {
+            let graph = no_graph();
+            Taken {
+                answer: Answer::Refused(r),
+                graph,
+            }
+        }
+        Answer::Accepted => {
+            let graph = Graph {
+                kinds: h.kinds,
+                n: h.n,
+                edges: h.edges,
+                cores,
+                kind,
+                wcet,
+                edge,
+            };
+            Taken {
+                answer: Answer::Accepted,
+                graph,
+            }
+        }
+    }
 }

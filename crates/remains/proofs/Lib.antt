@@ -1,3 +1,4 @@
 -- Laws that belong to no one function.
+pub mod Fewest
 pub mod Lowering
 pub mod Outcomes

@@ -5,8 +5,6 @@ use Rattle.rules.proofs.wrong_length as wrong-length
 use Rattle.rules.proofs.wrong_length.Reads as wrong-length-reads
 use Rattle.rules.proofs.record_fails as record-fails
 use Rattle.rules.proofs.record_fails.Reads as record-fails-reads
-use Rattle.rules.proofs.at_fault as at-fault
-use Rattle.rules.proofs.at_fault.Reads as at-fault-reads
 use Rattle.rules.proofs.counts_fail as counts-fail
 use Rattle.rules.proofs.counts_fail.Reads as counts-fail-reads
 
@@ -15,9 +13,6 @@ wrong-length-one κs a r r′ ws ws′ pre p q = (p ∙ sym q, refl)
 
 pub record-fails-one : OneOutcome record-fails.ended record-fails-reads.Pre record-fails-reads.Post
 record-fails-one κs a r r′ ws ws′ pre p q = (p ∙ sym q, refl)
-
-pub at-fault-one : OneOutcome at-fault.ended at-fault-reads.Pre at-fault-reads.Post
-at-fault-one κs a r r′ ws ws′ pre p q = (p ∙ sym q, refl)
 
 pub counts-fail-one : OneOutcome counts-fail.ended counts-fail-reads.Pre counts-fail-reads.Post
 counts-fail-one κs a r r′ ws ws′ pre p q = (p ∙ sym q, refl)

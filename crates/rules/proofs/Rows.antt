@@ -1,17 +1,15 @@
 -- What a pass carries from record to record is enough: the tests of the code are the rows of the table.
 use mathlib.Core.Path.{_≡_, refl, sym}
 use mathlib.Core.Logic.{_⊎_, inl, inr}
-use mathlib.Core.Bool.{Bool, true, false, _&&_, _||_, and-false, or-false}
+use mathlib.Core.Bool.{Bool, true, false, _&&_, _||_}
 use mathlib.Core.List.{List}
 use Prim.Native.Nat.{ℕ, zero, suc, _≤_, _<_, max}
 use native.Mathlib.Omega.{arith}
 use lib.Dec.{eqb, ltb}
-use borrow.Author.Tests.{lt-ltb, le-ltb, ne-eqb, eqb-true}
+use borrow.Author.Tests.{lt-ltb, le-ltb, eqb-true}
 use Rattle.model.specs.Places.{count, any, largest}
 use Rattle.model.proofs.Bools.{le-or-lt}
 use Rattle.graph.specs.File.{order, isOrder, ordinal}
-use Rattle.graph.specs.Rules.{rule2, rule3, rule5, rule7, rule9, rule10}
-use Rattle.rules.specs.Rows.{faulty}
 
 -- some place has more than x just where the largest is more
 pub any-above : (f : ℕ → ℕ) (x n : ℕ) → any (λ j. ltb x (f j)) n ≡ ltb x (largest f n)
@@ -34,16 +32,3 @@ ordinal-passed s k r test = go (eqb (order s k) r) refl
         → eqb (order s k) r && test (count (isOrder s r) k) ≡ eqb (order s k) r && test (count (isOrder s (order s k)) k)
     go true e = let o : order s k ≡ r = eqb-true (order s k) r e in rw o refl
     go false e = rw e
-
--- of the rows that are said of records of one kind, those of another kind do not hold
-pub faulty-kind : (s : List ℕ) (k : ℕ) → order s k ≡ 0 → (rule2 s k || rule3 s k) || rule5 s k ≡ faulty s k
-unfolding faulty rule7 rule9 rule10
-faulty-kind s k e = simp (e, and-false, or-false)
-
-pub faulty-vertex : (s : List ℕ) (k : ℕ) → order s k ≡ 1 → (rule2 s k || rule3 s k) || rule7 s k ≡ faulty s k
-unfolding faulty rule5 rule9 rule10
-faulty-vertex s k e = simp (e, and-false, or-false)
-
-pub faulty-edge : (s : List ℕ) (k : ℕ) → (order s k ≡ 0 → ⊥) → (order s k ≡ 1 → ⊥) → (rule2 s k || rule3 s k) || (rule9 s k || rule10 s k) ≡ faulty s k
-unfolding faulty rule5 rule7
-faulty-edge s k a b = simp (ne-eqb (order s k) 0 a, ne-eqb (order s k) 1 b)

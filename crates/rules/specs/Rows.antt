@@ -3,7 +3,6 @@
 -- The rows 2 to 10 of the table as one record, or the counts, show them.
 --
 --   ofRecord s num k     the row of a number that is tested for each record
---   faulty s k           one of these rows holds for record k
 --   ofCounts c num       the row of a number that is tested on the counts
 use mathlib.Core.Bool.{Bool, _||_}
 use mathlib.Core.List.{List}
@@ -17,10 +16,6 @@ unfoldable pub ofRecord : List ℕ → ℕ → ℕ → Bool
 ofRecord s num k =
     pick (eqb num 2) (rule2 s k)
     (pick (eqb num 3) (rule3 s k) (pick (eqb num 5) (rule5 s k) (pick (eqb num 7) (rule7 s k) (pick (eqb num 9) (rule9 s k) (rule10 s k)))))
-
--- by kind: the rows of any record, of types, of vertices, of edges
-unfoldable pub faulty : List ℕ → ℕ → Bool
-faulty s k = (rule2 s k || rule3 s k) || (rule5 s k || (rule7 s k || (rule9 s k || rule10 s k)))
 
 unfoldable pub ofCounts : Counts → ℕ → Bool
 ofCounts c num =

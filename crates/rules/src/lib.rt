@@ -8,7 +8,7 @@ ghost use Rattle.model.specs.Places.{count, largest};
 ghost use Rattle.graph.specs.File.{records, order, isOrder, many};
 ghost use Rattle.graph.specs.Rules.{rule1, rule2, rule3, rule5, rule7, rule9, rule10};
 ghost use Rattle.records.specs.Passing.{Counted, Before};
-ghost use Rattle.rules.specs.Rows.{ofCounts, ofRecord, faulty};
+ghost use Rattle.rules.specs.Rows.{ofCounts, ofRecord};
 use records::Counts;
 use records::Passed;
 use records::byte;
@@ -102,20 +102,6 @@ pub fn record_fails(file: &[u8], number: u32, k: usize, p: Passed, c: Counts) ->
         7 => wrong_vertex(file, k, p.vertices, c.kinds),
         9 => wrong_edge(file, k, c.n),
         _ => not_above(file, k),
-    }
-}
-
-// Whether record `k` is at fault by any of these: all but 2 and 3 are said of records of one kind.
-pub fn at_fault(file: &[u8], k: usize, p: Passed, c: Counts) -> bool
-    requires { ⌜ (k < records (now file)) × Before (now file) k p × Counted (now file) c ⌝ }
-    ensures { λ r. ⌜ r ≡ faulty (now (file .entry)) k ⌝ }
-{
-    let order = order_of(file, k);
-    let misplaced = stray(file, k) | late(file, k, p.latest);
-    match order {
-        0 => misplaced | wrong_kind(file, k, p.kinds),
-        1 => misplaced | wrong_vertex(file, k, p.vertices, c.kinds),
-        _ => misplaced | (wrong_edge(file, k, c.n) | not_above(file, k)),
     }
 }
 

@@ -1,11 +1,11 @@
 -- From what the reader says of a file, and from what was found for its graph, to the entries' answers.
 use mathlib.Core.Path.{_≡_, refl, sym, ap, _∙_, fun-ext}
-use mathlib.Core.List.{List, _++_}
+use mathlib.Core.List.{List}
 use mathlib.Core.Logic.{⊎-elim}
 use mathlib.Core.Bool.{false}
 use Prim.Native.Nat.{ℕ, _≤_, _<_}
 use native.Mathlib.Omega.{arith}
-use lib.ListN.{getD, length, drop, List·getD-eq-default}
+use lib.ListN.{getD, length, List·getD-eq-default}
 use borrow.Author.Tests.{le-ltb}
 use Rattle.model.specs.Places.{table}
 use Rattle.model.specs.ListSchedule.{begin}
@@ -18,7 +18,6 @@ use Rattle.graph.specs.declared.Refusal.{Refusal}
 use Rattle.graph.specs.declared.Answer.{Answer}
 use Rattle.graph.specs.declared.Answer.the-variants.{Accepted, Refused}
 use Rattle.graph.specs.declared.Taken.{Taken}
-use Rattle.graph.proofs.Accepted.{taken}
 use Rattle.tick.specs.declared.Run.{Run}
 use Rattle.tick.specs.declared.Report.the-variants.{Refused as NoTick}
 use Rattle.tick.specs.Run.{leftOf, recordOf}
@@ -39,9 +38,6 @@ use Rattle.schedule.specs.declared.Played.the-variants.{Finish, Refused 
 module _ (s : List ℕ) (t : Taken) (e : t ≡ readOf s) where
   answered : (a : Answer) → t .answer ≡ a → readOf s .answer ≡ a
   answered a p = sym (ap (λ (x : Taken). x .answer) e) ∙ p
-
-  pub read-accepted : ((i : ℕ) → getD s i 0 < 256) → t .answer ≡ Accepted → AcceptedGraph (t .graph)
-  read-accepted bytes p = rw e (taken s bytes (answered Accepted p))
 
   pub start-accepted : t .answer ≡ Accepted → (l : List ℕ) → startOf s l ≡ startedOn (t .graph) l
   unfolding startOf
@@ -137,9 +133,3 @@ module _ (s : List ℕ) (ok : readOf s .answer ≡ Accepted) (e : List ℕ) (fit
   pub run-returns : (room : ℕ) → readOf s .graph .n ≤ room → playOf s e room ≡ Finish (record { 0 = finishOf (asModel (readOf s .graph)) (timesOf e) })
   unfolding playOf playOn playIn
   run-returns room h = rw (ok, fit, le-ltb room (readOf s .graph .n) h) refl
-
-  -- THEOREM. It fills the first N places with the finish instants, and the other places keep what they held.
-  pub run-fills : (old : List ℕ) → readOf s .graph .n ≤ length old
-      → finishesOf s e old ≡ table (finishAt (asModel (readOf s .graph)) (timesOf e)) (readOf s .graph .n) ++ drop (readOf s .graph .n) old
-  unfolding finishesOf
-  run-fills old h = rw (run-returns (length old) h) refl

@@ -4,6 +4,8 @@ ghost use mathlib.Core.Path.{_≡_};
 ghost use Prim.Native.Nat.{_≤_};
 ghost use lib.ListN.{length};
 ghost use Rattle.graph.specs.Model.{AcceptedGraph};
+ghost use Rattle.model.specs.Places.{table};
+ghost use Rattle.starts.specs.Starts.{firstEdge};
 ghost use Rattle.times.specs.Times.{Fitting};
 ghost use Rattle.schedule.specs.Start.{noRun, refusedStart, startedOn, startOf};
 ghost use Rattle.schedule.specs.Tick.{tickOn, tickOf};
@@ -120,9 +122,10 @@ pub fn tick(run: Run, file: &[u8]) -> Ticked
 }
 
 // The times are judged already; what is left to say no to is the room.
-fn play_into(g: Graph, times: &[u32], finishes: &mut [u32]) -> Played
+fn play_into(g: Graph, starts: &[u16; 129], times: &[u32], finishes: &mut [u32]) -> Played
     requires { ⌜ AcceptedGraph g ⌝ }
     requires { ⌜ Fitting g (now times) ⌝ }
+    requires { ⌜ now starts ≡ table (firstEdge g) 129 ⌝ }
     ensures { λ r. ⌜ (r ≡ playIn g (now (times .entry)) (length (now (finishes .entry)))) × (now (finishes .exit) ≡ filledBeside r g (now (times .entry)) (now (finishes .entry))) ⌝ }
 {
     if finishes.len() < g.n {
@@ -131,20 +134,21 @@ fn play_into(g: Graph, times: &[u32], finishes: &mut [u32]) -> Played
             place: 0,
         });
     }
-    let done = leaps::play(g, times::begun(g.n, times));
+    let done = leaps::play(g, starts, times::begun(g.n, times));
     let table = done.finishes;
     lent::hand_over(table, g.n, finishes);
     Played::Finish(Ticks(done.instant))
 }
 
-fn play_on(g: Graph, times: &[u32], finishes: &mut [u32]) -> Played
+fn play_on(g: Graph, starts: &[u16; 129], times: &[u32], finishes: &mut [u32]) -> Played
     requires { ⌜ AcceptedGraph g ⌝ }
+    requires { ⌜ now starts ≡ table (firstEdge g) 129 ⌝ }
     ensures { λ r. ⌜ (r ≡ playOn g (now (times .entry)) (length (now (finishes .entry)))) × (now (finishes .exit) ≡ filledBeside r g (now (times .entry)) (now (finishes .entry))) ⌝ }
 {
     let answer = times::judge(g, times);
     match answer {
         Answer::Refused(refusal) => Played::Refused(refusal),
-        Answer::Accepted => play_into(g, times, finishes),
+        Answer::Accepted => play_into(g, starts, times, finishes),
     }
 }
 
@@ -152,13 +156,35 @@ fn play_on(g: Graph, times: &[u32], finishes: &mut [u32]) -> Played
 pub fn run(file: &[u8], times: &[u32], finishes: &mut [u32]) -> Played
     ensures { λ r. ⌜ (r ≡ playOf (now (file .entry)) (now (times .entry)) (length (now (finishes .entry)))) × (now (finishes .exit) ≡ finishesOf (now (file .entry)) (now (times .entry)) (now (finishes .entry))) ⌝ }
 {
-    let taken = reader::read(file);
-    let answer = taken.answer;
+    let mut cores = [0u8; 10];
+    let mut kind = [0u8; 128];
+    let mut wcet = [0u32; 128];
+    let mut edge = [0u16; 1024];
+    let mut starts = [0u16; 129];
+    let mut order = [0u8; 128];
+    let h = reader::take(
+        file,
+        &mut cores,
+        &mut kind,
+        &mut wcet,
+        &mut edge,
+        &mut starts,
+        &mut order,
+    );
+    let answer = h.answer;
     match answer {
         Answer::Refused(refusal) => Played::Refused(refusal),
         Answer::Accepted => {
-            let g = taken.graph;
-            play_on(g, times, finishes)
+            let g = Graph {
+                kinds: h.kinds,
+                n: h.n,
+                edges: h.edges,
+                cores,
+                kind,
+                wcet,
+                edge,
+            };
+            play_on(g, &starts, times, finishes)
         }
     }
 }

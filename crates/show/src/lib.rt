@@ -75,7 +75,7 @@ fn path(g: Graph)
 fn figures(g: Graph)
     requires { ⌜ AcceptedGraph g ⌝ }
 {
-    let b = bounds::accepted::figures(g);
+    let b = bounds::figures(g);
     line(b"old ", b.old.0);
     line(b"new ", b.new.0);
     line(b"ticks ", b.ticks.0);

@@ -3,17 +3,17 @@ use mathlib.Core.Path.{_≡_, sym}
 use mathlib.Core.Bool.{true, false}
 use mathlib.Core.Logic.{⊎-elim}
 use mathlib.Core.List.{List}
-use Prim.Native.Nat.{ℕ, _+_, _-_, _/_, _≤_, _<_}
+use Prim.Native.Nat.{ℕ, zero, suc, _+_, _-_, _/_, _≤_, _<_}
 use native.Mathlib.Omega.{arith}
 use lib.ListN.{getD}
 use borrow.Author.Tests.{leb-true, leb-false}
-use Rattle.model.specs.Places.{first}
+use Rattle.model.specs.Places.{first, table}
 use Rattle.model.proofs.Bools.{clash, le-or-lt}
 use Rattle.model.proofs.Places.{first-at, first-le, first-below, first-here}
 use Rattle.graph.specs.declared.Graph.{Graph}
-use Rattle.graph.specs.Model.{AcceptedGraph, from}
+use Rattle.graph.specs.Model.{AcceptedGraph, from, to}
 use Rattle.graph.proofs.Edges.{edges-ascend}
-use Rattle.starts.specs.Starts.{notBelow, startIn, firstEdge}
+use Rattle.starts.specs.Starts.{notBelow, startIn, firstEdge, Rows}
 
 -- a search that has passed nothing stops there
 pub start-stops : (l : List ℕ) (m u i : ℕ) → i < m → i ≤ startIn l m u → notBelow l u i ≡ true → i ≡ startIn l m u
@@ -63,3 +63,21 @@ start-later l m u =
     let b = leb-false u (getD l k 0 / 256) (first-below (notBelow l u) m k h) in
     absurd (omega (arith, a, b)))
     (le-or-lt (first (notBelow l u) m) (first (notBelow l (u + 1)) m))
+
+pub start-rises : (l : List ℕ) (m u d : ℕ) → startIn l m u ≤ startIn l m (u + d)
+start-rises l m u zero = let e : u + zero ≡ u = omega arith in rw e (omega arith)
+start-rises l m u (suc d) =
+    let e : u + suc d ≡ u + d + 1 = omega arith in
+    rw e (omega (arith, start-rises l m u d, start-later l m (u + d)))
+
+-- the edges of an accepted graph are laid out
+pub accepted-rows : {g : Graph} → AcceptedGraph g → {st : List ℕ} → st ≡ table (firstEdge g) 129 → Rows (g .edge) (g .edges) (g .n) st
+unfolding from to
+accepted-rows A e = record {
+  few-vertices = A .few-vertices;
+  few-edges = A .few-edges;
+  from-known = A .from-known;
+  to-known = A .to-known;
+  ascending = A .ascending;
+  begin = e;
+}

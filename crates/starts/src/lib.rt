@@ -3,8 +3,7 @@
 ghost use mathlib.Core.Path.{_≡_};
 ghost use Prim.Native.Nat.{_/_, _%_, _≤_};
 ghost use Rattle.model.specs.Places.{table};
-ghost use Rattle.starts.specs.Starts.{startIn, firstEdge};
-use graph::Graph;
+ghost use Rattle.starts.specs.Starts.{startIn};
 
 // The vertex that an edge comes from, and the one that it goes to: an edge is from * 256 + to.
 pub fn from(edge: u16) -> usize
@@ -34,17 +33,16 @@ fn start(edge: &[u16; 1024], edges: usize, u: usize, i: usize) -> usize
     edges
 }
 
-// The starts of all vertices, and that of 128, where the edges of 127 end.
-pub fn starts(g: Graph) -> [u16; 129]
-    requires { ⌜ g .edges ≤ 1024 ⌝ }
-    ensures { λ r. ⌜ r ≡ table (firstEdge g) 129 ⌝ }
+// The starts of all vertices, and that of 128, where the edges of 127 end. Past the last vertex that has edges they are all the same.
+pub fn starts(edge: &[u16; 1024], edges: usize) -> [u16; 129]
+    requires { ⌜ edges ≤ 1024 ⌝ }
+    ensures { λ r. ⌜ r ≡ table (startIn (now (edge .entry)) edges) 129 ⌝ }
 {
-    let edges = g.edges;
-    let mut list = [0u16; 129];
+    let mut list = [edges as u16; 129];
     let mut at: usize = 0;
     let mut u: usize = 0;
-    while u < 129 {
-        at = start(&g.edge, edges, u, at);
+    while (u < 129) & (at < edges) {
+        at = start(edge, edges, u, at);
         list[u] = at as u16;
         u += 1;
     }

@@ -126,13 +126,6 @@ module _ (g : Graph) (r : Run) where
           (le-or-lt (g .n) v));
     })
 
-    -- THEOREM. So it fails just where the sentence does not hold.
-    pub suits-not : (Suits g r → ⊥) → suits g r ≡ false
-    suits-not h = not-true (suits g r) (λ t. h (suits-sound t))
-
-    pub not-suits : suits g r ≡ false → Suits g r → ⊥
-    not-suits f s = clash (suits-complete s) f
-
     -- ---- the tests of the code
 
     -- able: ready by the code's sets

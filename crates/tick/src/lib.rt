@@ -46,7 +46,8 @@ impl Run {
         ensures { λ r. ⌜ r ≡ recordOf (self .n) (self .instant + d) (after (isIn on) d (stateOf self)) ⌝ }
     {
         let mut left = self.left;
-        let over = remains::lower(&mut left, on, d);
+        let spent = remains::lower(&mut left, on, d);
+        let over = spent.over;
         self.left = left;
         self.ran = vset::minus(on, over);
         self.instant = self.instant + (d as u64);

@@ -7,7 +7,7 @@ use Prim.Native.Nat.{ℕ, zero, suc, _+_, _-_, _*_, _/_, _%_, _^_, _≤_, _<_, z
 use native.Mathlib.Nat.{div-add-mod', zero-div, div-eq-of-lt, div-one, mod-lt, mod-eq-of-lt, add-zero, add-comm, one-mul, mul-assoc, lt-of-lt-of-le, add-mul-div-right, add-mul-mod-self-right, div-div-eq-div-mul, pow-succ', pow-suc}
 use native.Mathlib.Omega.{arith}
 use native.Mathlib.Numerals.{add-one}
-use lib.Dec.{eqb, lit<}
+use lib.Dec.{eqb, eqb·suc-suc, eqb·suc-zero, lit<}
 use lib.Bits.{bitAnd, bitOr, bitXor, and-shr, and-mod, or-shr, or-mod, xor-shr, xor-mod, xor-add-and, and-comm, and-mask}
 use lib.Arith.{lt-one}
 use lib.Count.{ones, ones-step, trailingZeros, under}
@@ -214,3 +214,35 @@ trailing-first (suc k) w =
     turn zero t h = refl
     turn (suc zero) t h = refl
     turn (suc (suc d)) t h = absurd (omega arith)
+
+-- a number that is not 0 has one
+pub trailing-lt : (k w : ℕ) → 0 < w → w < 2 ^ k → trailingZeros k w < k
+unfolding trailingZeros
+trailing-lt zero w some h = absurd (omega (arith, lt-one h))
+trailing-lt (suc k) w some h = go (w % 2) refl (λ l. trailing-lt k (w / 2) l (half-lt k w h))
+  where
+    go : (d : ℕ) → w % 2 ≡ d → (0 < w / 2 → trailingZeros k (w / 2) < k) → under d (trailingZeros k (w / 2)) < suc k
+    go zero e ih = suc-le-suc (ih (omega arith))
+    go (suc d) e ih = suc-le-suc zero-le
+
+-- `w & (w - 1)`: less 1, the digits above the lowest 1 stay, and that one becomes 0
+pub has-less : (k w i : ℕ) → 0 < w → w < 2 ^ k → has w i && has (w - 1) i ≡ has w i && not (eqb i (trailingZeros k w))
+unfolding trailingZeros
+has-less zero w i some h = absurd (omega (arith, lt-one h))
+has-less (suc k) w zero some h = ap₂ _&&_ (has-first w) (has-first (w - 1)) ∙ go (w % 2) refl ∙ ap (λ (b : Bool). b && not (eqb zero (under (w % 2) (trailingZeros k (w / 2))))) (sym (has-first w))
+  where
+    go : (d : ℕ) → w % 2 ≡ d → eqb (w % 2) 1 && eqb ((w - 1) % 2) 1 ≡ eqb (w % 2) 1 && not (eqb zero (under (w % 2) (trailingZeros k (w / 2))))
+    go zero e = rw e refl
+    go (suc d) e = let z : (w - 1) % 2 ≡ 0 = omega arith in rw (e, z) refl
+has-less (suc k) w (suc i) some h =
+    ap₂ _&&_ (has-suc w i) (has-suc (w - 1) i) ∙ go (w % 2) refl (λ l. has-less k (w / 2) i l (half-lt k w h))
+    ∙ ap (λ (b : Bool). b && not (eqb (suc i) (under (w % 2) (trailingZeros k (w / 2))))) (sym (has-suc w i))
+  where
+    same : (b : Bool) → b && b ≡ b && true
+    same true = refl
+    same false = refl
+
+    go : (d : ℕ) → w % 2 ≡ d → (0 < w / 2 → has (w / 2) i && has (w / 2 - 1) i ≡ has (w / 2) i && not (eqb i (trailingZeros k (w / 2))))
+        → has (w / 2) i && has ((w - 1) / 2) i ≡ has (w / 2) i && not (eqb (suc i) (under (w % 2) (trailingZeros k (w / 2))))
+    go zero e ih = let z : (w - 1) / 2 ≡ w / 2 - 1 = omega arith in rw (e, z, eqb·suc-suc i (trailingZeros k (w / 2))) (ih (omega arith))
+    go (suc d) e ih = let z : (w - 1) / 2 ≡ w / 2 = omega arith in rw (e, z, eqb·suc-zero i) (same (has (w / 2) i))

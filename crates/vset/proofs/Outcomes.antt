@@ -24,6 +24,8 @@ use Rattle.vset.proofs.size as size
 use Rattle.vset.proofs.size.Reads as size-reads
 use Rattle.vset.proofs.lowest as lowest
 use Rattle.vset.proofs.lowest.Reads as lowest-reads
+use Rattle.vset.proofs.next as next
+use Rattle.vset.proofs.next.Reads as next-reads
 use Rattle.vset.proofs.first as first
 use Rattle.vset.proofs.first.Reads as first-reads
 
@@ -59,6 +61,12 @@ size-one κs a r r′ ws ws′ pre p q = (p ∙ sym q, refl)
 
 pub lowest-one : OneOutcome lowest.ended lowest-reads.Pre lowest-reads.Post
 lowest-one κs a r r′ ws ws′ pre p q = (p ∙ sym q, refl)
+
+pub next-one : OneOutcome next.ended next-reads.Pre next-reads.Post
+next-one κs a r r′ ws ws′ pre p q =
+    let v = p .0 ∙ sym (q .0) in
+    let rest = same-set (r .rest) (r′ .rest) _ (p .1) (rw (← v) at (q .1)) in
+    (λ i. record { v = v i; rest = rest i }, refl)
 
 pub first-one : OneOutcome first.ended first-reads.Pre first-reads.Post
 first-one κs a r r′ ws ws′ pre p q = (same-set r r′ _ p q, refl)

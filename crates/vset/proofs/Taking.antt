@@ -28,16 +28,23 @@ emptied on rest low high inside e is t v =
 pub none-in : (s : Vset) (p : ℕ → Bool) → Members s p → (e : Bool) → e ≡ not (any (isIn s) 128) → e ≡ true → (v : ℕ) → p v ≡ false
 none-in s p m e is t v = sym (m .are v) ∙ emptied s (isIn s) (m .low) (m .high) (λ k h. h) e is (ap not t) v
 
--- the rest is not empty: its lowest is one of it
-pub lowest-in : (rest : ℕ → Bool) (t : ℕ) (e : Bool) → t ≡ first rest 128 → e ≡ not (any rest 128) → not e ≡ true → (t < 128) × (rest t ≡ true)
-lowest-in rest t e is-t is-e f =
-    let m = any-elim rest 128 (some (any rest 128) (sym is-e ∙ not-is-true e f)) in
-    let l = first-found rest 128 (m .0) (m .1) (m .2) in
-    (rw is-t l, rw is-t (first-here rest 128 l))
+-- the rest is not empty, as a loop's test says
+pub some-in : (rest : ℕ → Bool) (e : Bool) → e ≡ not (any rest 128) → not e ≡ true → any rest 128 ≡ true
+some-in rest e is f = some (any rest 128) (sym is ∙ not-is-true e f)
   where
     some : (b : Bool) → not b ≡ false → b ≡ true
     some true q = refl
     some false q = absurd (clash refl q)
+
+-- its lowest is one of it
+pub first-in : (rest : ℕ → Bool) (t : ℕ) → t ≡ first rest 128 → any rest 128 ≡ true → (t < 128) × (rest t ≡ true)
+first-in rest t is-t f =
+    let m = any-elim rest 128 f in
+    let l = first-found rest 128 (m .0) (m .1) (m .2) in
+    (rw is-t l, rw is-t (first-here rest 128 l))
+
+pub lowest-in : (rest : ℕ → Bool) (t : ℕ) (e : Bool) → t ≡ first rest 128 → e ≡ not (any rest 128) → not e ≡ true → (t < 128) × (rest t ≡ true)
+lowest-in rest t e is-t is-e f = first-in rest t is-t (some-in rest e is-e f)
 
 module _ (rest next : ℕ → Bool) (t : ℕ) (is-next : (k : ℕ) → next k ≡ rest k && not (eqb k t)) (here : rest t ≡ true) where
   pub still-in : (k : ℕ) → next k ≡ true → rest k ≡ true

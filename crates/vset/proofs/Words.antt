@@ -13,11 +13,11 @@ use lib.Count.{ones, ones-cat, trailingZeros}
 use borrow.Author.Tests.{eq-eqb, eqb-true}
 use Rattle.model.specs.Places.{count, first, any}
 use Rattle.model.proofs.Bools.{cases, clash, le-or-lt, not-true, both, left-of, right-of}
-use Rattle.model.proofs.Places.{first-at, first-none, any-elim, any-none, any-false}
+use Rattle.model.proofs.Places.{first-at, first-none, any-elim, any-false}
 use Rattle.vset.specs.Members.{has, num, isIn, Members}
 use Rattle.vset.specs.declared.Vset.{Vset}
 use Rattle.model.proofs.Places.{first-le, first-below, first-here}
-use Rattle.vset.proofs.Digits.{has-low, has-high, has-and, has-or, has-pow, has-and-not, has-zero, has-above, has-ext, ones-count, trailing-first}
+use Rattle.vset.proofs.Digits.{has-low, has-high, has-and, has-or, has-pow, has-and-not, has-zero, has-above, has-ext, ones-count, trailing-first, trailing-lt, has-less}
 
 -- a word
 abbrev pub Word : ℕ → Type 0
@@ -156,9 +156,7 @@ module _ (lo hi : ℕ) (a : Word lo) (b : Word hi) where
   pub lowest-low : (lo ≡ 0 → ⊥) → trailingZeros 64 lo ≡ first (has (num lo hi)) 128
   lowest-low z =
       let t = trailing-first 64 lo in
-      let l : first (has lo) 64 < 64 =
-      ⊎-elim (λ (g : 64 ≤ first (has lo) 64). absurd (z (no-digit 64 lo a (any-none (has lo) 64 (λ k h. first-below (has lo) 64 k (omega arith)))))) (λ g. g)
-      (le-or-lt 64 (first (has lo) 64)) in
+      let l : first (has lo) 64 < 64 = rw t at (trailing-lt 64 lo (omega arith) a) in
       t ∙ sym (first-at (has (num lo hi)) 128 (first (has lo) 64) (omega arith) (λ k h. test-low lo hi k (omega arith) ∙ first-below (has lo) 64 k h)
       (test-low lo hi (first (has lo) 64) l ∙ first-here (has lo) 64 l))
 
@@ -183,6 +181,23 @@ module _ (lo hi : ℕ) (a : Word lo) (b : Word hi) where
           let back : first (has hi) 64 + 64 - 64 ≡ first (has hi) 64 = omega arith in
           sym (first-at (has (num lo hi)) 128 (first (has hi) 64 + 64) (omega arith) under
           (test-high lo hi (first (has hi) 64 + 64) a (omega arith) ∙ ap (has hi) back ∙ first-here (has hi) 64 g))
+
+  -- the high word has one where the low word has none
+  pub some-high : any (has (num lo hi)) 128 ≡ true → lo ≡ 0 → 0 < hi
+  some-high e z = ⊎-elim (λ (g : 1 ≤ hi). g) (λ (g : hi < 1). absurd (clash (both (eqb lo 0) (eqb hi 0) (eq-eqb lo 0 z) (eq-eqb hi 0 (omega arith))) (empty-has lo hi a b ∙ ap not e))) (le-or-lt 1 hi)
+
+-- `w & (w - 1)` is w without its lowest digit
+lowest-off : (w : ℕ) → 0 < w → Word w → bitAnd w (w - 1) ≡ bitAnd w ((2 ^ 64 - 1) - (1 * 2 ^ trailingZeros 64 w) % 2 ^ 64)
+lowest-off w some a =
+    has-ext 64 (bitAnd w (w - 1)) (bitAnd w ((2 ^ 64 - 1) - (1 * 2 ^ t) % 2 ^ 64)) (and-lt 64 w (w - 1) a (omega arith)) (and-lt 64 w ((2 ^ 64 - 1) - (1 * 2 ^ t) % 2 ^ 64) a (ones-sub-lt 64 ((1 * 2 ^ t) % 2 ^ 64)))
+    (λ i. has-and w (w - 1) i ∙ has-less 64 w i some a ∙ ap (λ (x : Bool). has w i && not x) (sym (has-pow t i)) ∙ sym (has-and-not 64 w (2 ^ t) i a (pow-lt l))
+    ∙ ap (λ (x : ℕ). has (bitAnd w ((2 ^ 64 - 1) - x)) i) (sym (bit-word t l)))
+  where
+    t : ℕ
+    t = trailingZeros 64 w
+
+    l : t < 64
+    l = trailing-lt 64 w some a
 
 -- ---- the same of sets
 
@@ -229,6 +244,16 @@ module _ (s : Vset) (a : Word (s .lo)) (b : Word (s .hi)) where
       high = and-lt 64 (s .hi) ((2 ^ 64 - 1) - (1 * 2 ^ (i - 64)) % 2 ^ 64) b (ones-sub-lt 64 ((1 * 2 ^ (i - 64)) % 2 ^ 64));
       are = λ k. without-high (s .lo) (s .hi) i a b k g l;
     }
+
+  pub next-low-set : 0 < s .lo → Members (record { lo = bitAnd (s .lo) (s .lo - 1); hi = s .hi }) (λ k. isIn s k && not (eqb k (trailingZeros 64 (s .lo))))
+  next-low-set some = rw (lowest-off (s .lo) some a) (without-low-set (trailingZeros 64 (s .lo)) (trailing-lt 64 (s .lo) some a))
+
+  pub next-high-set : 0 < s .hi → Members (record { lo = s .lo; hi = bitAnd (s .hi) (s .hi - 1) }) (λ k. isIn s k && not (eqb k (trailingZeros 64 (s .hi) + 64)))
+  next-high-set some =
+      let t = trailingZeros 64 (s .hi) in
+      let l = trailing-lt 64 (s .hi) some b in
+      let e : t + 64 - 64 ≡ t = omega arith in
+      rw (lowest-off (s .hi) some b) (rw e at (without-high-set (t + 64) (omega arith) (omega (arith, l))))
 
   module _ (t : Vset) (a′ : Word (t .lo)) (b′ : Word (t .hi)) where
     pub both-set : Members (record { lo = bitAnd (s .lo) (t .lo); hi = bitAnd (s .hi) (t .hi) }) (λ k. isIn s k && isIn t k)

@@ -1,5 +1,5 @@
 ghost use mathlib.Core.Path.{_≡_};
-ghost use mathlib.Core.Bool.{false, not, _&&_, _||_};
+ghost use mathlib.Core.Bool.{true, false, not, _&&_, _||_};
 ghost use Prim.Native.Nat.{_<_};
 ghost use lib.Dec.{eqb, ltb};
 ghost use Rattle.model.specs.Places.{count, first, any};
@@ -119,6 +119,37 @@ pub fn lowest(s: Vset) -> usize
         u64::trailing_zeros(s.hi) as usize + 64
     } else {
         u64::trailing_zeros(s.lo) as usize
+    }
+}
+
+// The lowest member of a set that has one, and the others. A loop over a set takes its members so, one by one: a word less 1 differs
+// from the word in its lowest 1 and the zeros below that.
+pub struct Taken {
+    pub v: usize,
+    pub rest: Vset,
+}
+
+pub fn next(s: Vset) -> Taken
+    requires { ⌜ any (isIn s) 128 ≡ true ⌝ }
+    ensures { λ r. ⌜ r .v ≡ first (isIn s) 128 ⌝ }
+    ensures { λ r. ⌜ Members (r .rest) (λ k. isIn s k && not (eqb k (r .v))) ⌝ }
+{
+    if s.lo != 0 {
+        Taken {
+            v: u64::trailing_zeros(s.lo) as usize,
+            rest: Vset {
+                lo: s.lo & (s.lo - 1),
+                hi: s.hi,
+            },
+        }
+    } else {
+        Taken {
+            v: u64::trailing_zeros(s.hi) as usize + 64,
+            rest: Vset {
+                lo: s.lo,
+                hi: s.hi & (s.hi - 1),
+            },
+        }
     }
 }
 

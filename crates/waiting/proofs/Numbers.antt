@@ -17,7 +17,12 @@ use Rattle.vset.specs.declared.Vset.{Vset}
 use Rattle.vset.specs.Members.{isIn}
 use Rattle.vset.proofs.Words.{past-none}
 use Rattle.vset.proofs.Same.{same-set}
-use Rattle.waiting.specs.Waiting.{comesFrom, leadsTo, entering, edgesBy, Layout, Settled, Unsettled}
+use Rattle.waiting.specs.Waiting.{entering, edgesBy, Layout, Settled, Unsettled}
+use Rattle.starts.specs.Starts.{comesFrom, leadsTo}
+
+-- tests that hold of the same vertices count the same edges
+pub entering-ext : (l : List ℕ) (p q : ℕ → Bool) (m v : ℕ) → ((u : ℕ) → p u ≡ q u) → entering l p m v ≡ entering l q m v
+entering-ext l p q m v e = ap (λ (r : ℕ → Bool). entering l r m v) (fun-ext e)
 
 -- h holds at the ends of just those edges that come from where p or h holds
 pub record Closed (l : List ℕ) (m : ℕ) (p h : ℕ → Bool) : Type 0 where
@@ -65,7 +70,7 @@ settled-one l starts L w w′ busy b b′ S S′ = (
   same-set b b′ (isIn b) (record { low = S .stand .low; high = S .stand .high; are = λ v. refl }) (record { low = S′ .stand .low; high = S′ .stand .high; are = λ v. sym (same v) }),
   ext-getD 0 w w′ (S .long ∙ sym (S′ .long)) (λ v h.
       let k : v < 128 = omega (arith, S .long) in
-      S .counts v k ∙ ap (λ (p : ℕ → Bool). entering l (λ u. busy u || p u) (edgesBy starts) v) (fun-ext same) ∙ sym (S′ .counts v k)),
+      S .counts v k ∙ entering-ext l (λ u. busy u || isIn b u) (λ u. busy u || isIn b′ u) (edgesBy starts) v (λ u. ap (λ (x : Bool). busy u || x) (same u)) ∙ sym (S′ .counts v k)),
 )
   where
     known : (i : ℕ) → i < edgesBy starts → leadsTo l i < 128

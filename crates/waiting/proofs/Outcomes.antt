@@ -1,5 +1,5 @@
 -- No public contract of this crate leaves a choice.
-use mathlib.Core.Path.{refl}
+use mathlib.Core.Path.{refl, sym, _∙_}
 use denote.Ref.{now}
 use Rattle.outcome.specs.OneOutcome.{OneOutcome}
 use Rattle.waiting.proofs.Numbers.{settled-one}
@@ -7,6 +7,11 @@ use Rattle.waiting.proofs.settle as settle
 use Rattle.waiting.proofs.settle.Reads as settle-reads
 use Rattle.waiting.proofs.begun as begun
 use Rattle.waiting.proofs.begun.Reads as begun-reads
+use Rattle.waiting.proofs.counted as counted
+use Rattle.waiting.proofs.counted.Reads as counted-reads
+
+pub counted-one : OneOutcome counted.ended counted-reads.Pre counted-reads.Post
+counted-one κs a r r′ ws ws′ pre p q = (p ∙ sym q, refl)
 
 -- where there is no cycle, the busy vertices say all the numbers and who stands behind
 pub settle-one : OneOutcome settle.ended settle-reads.Pre settle-reads.Post

@@ -1,36 +1,25 @@
 -- Those who are finished tell their successors, one after another, until nobody has anything left to tell. A vertex counts as long as
 -- it is unfinished or has not told its successors. Whoever tells them no longer counts, and for nobody else that changes. So the
 -- numbers stay those of the predecessors that count.
-use mathlib.Core.Path.{_≡_, refl, sym, ap, ap₂, _∙_, fun-ext}
-use mathlib.Core.Logic.{_⊎_, inl, inr, ⊎-elim}
+use mathlib.Core.Path.{_≡_, refl, sym, ap, ap₂, _∙_}
+use mathlib.Core.Logic.{_⊎_, inl, inr}
 use mathlib.Core.List.{List}
 use mathlib.Core.Bool.{Bool, true, false, not, _&&_, _||_, or-false, and-true, and-false}
 use Prim.Native.Nat.{ℕ, zero, suc, _+_, _≤_, _<_}
 use native.Mathlib.Omega.{arith}
-use lib.Dec.{eqb, ltb, leb}
+use lib.Dec.{eqb, ltb}
 use lib.ListN.{getD}
-use borrow.Author.Tests.{lt-ltb, le-ltb, ltb-true, ltb-false, le-leb, leb-true, leb-false, eq-eqb, eqb-true}
-use Rattle.model.specs.Places.{bit, count}
-use Rattle.model.proofs.Bools.{cases, clash, le-or-lt, both, left-of, right-of, or-right, or-cases, or-neither, not-is-true, same-test}
-use Rattle.model.proofs.Places.{first-below, first-here, count-ext, count-split, count-less}
-use Rattle.model.proofs.Tables.{table-at}
+use borrow.Author.Tests.{lt-ltb, le-ltb, ltb-false, eq-eqb, eqb-true}
+use Rattle.model.specs.Places.{count}
+use Rattle.model.proofs.Bools.{cases, left-of, right-of, or-right, or-cases, or-neither, not-is-true}
+use Rattle.model.proofs.Places.{count-less}
 use Rattle.vset.specs.declared.Vset.{Vset}
 use Rattle.vset.specs.Members.{isIn, Members}
-use Rattle.starts.specs.Starts.{notBelow, startIn}
-use Rattle.starts.proofs.Together.{start-in}
+use Rattle.starts.specs.Starts.{startIn}
 use Rattle.waiting.specs.declared.News.{News}
-use Rattle.waiting.specs.Waiting.{comesFrom, leadsTo, entering, leading, edgesBy, Layout, Told, Unsettled, Settled}
-use Rattle.places.proofs.Turns.{count-past}
-
-entering-ext : (l : List ℕ) (p q : ℕ → Bool) (m v : ℕ) → ((u : ℕ) → p u ≡ q u) → entering l p m v ≡ entering l q m v
-entering-ext l p q m v e = ap (λ (r : ℕ → Bool). entering l r m v) (fun-ext e)
-
--- one test splits another by u
-by-one : (a e c : Bool) → (e ≡ true → a ≡ true) → bit (a && c) ≡ bit ((a && not e) && c) + bit (e && c)
-by-one true true c h = omega arith
-by-one true false c h = omega arith
-by-one false true c h = absurd (clash (h refl) refl)
-by-one false false c h = refl
+use Rattle.waiting.specs.Waiting.{leading, edgesBy, Layout, Told, Unsettled, Settled}
+use Rattle.waiting.proofs.Rows.{start-listed, split}
+use Rattle.waiting.proofs.Numbers.{entering-ext}
 
 -- a vertex stands no longer behind another: then it is done unless it has ticks left
 freed : (b d : Bool) (x y : ℕ) → y ≤ x → (b || ltb 0 y) || (d || ((ltb 0 x && eqb y 0) && not b)) ≡ (b || ltb 0 x) || d
@@ -52,48 +41,7 @@ module _ (l starts : List ℕ) (L : Layout l starts) where
   start u = startIn l m u
 
   pub start-at : (u : ℕ) → u < 129 → getD starts u 0 ≡ start u
-  start-at u h = ap (λ (x : List ℕ). getD x u 0) (L .begin) ∙ table-at (startIn l m) 129 u h
-
-  -- the edges of u stand between its start and that of u + 1
-  between : (u i : ℕ) → i < m → leb (start u) i && ltb i (start (u + 1)) ≡ eqb (comesFrom l i) u
-  unfolding startIn
-  between u i h = same-test (leb (start u) i && ltb i (start (u + 1))) (eqb (comesFrom l i) u) to from
-    where
-      to : leb (start u) i && ltb i (start (u + 1)) ≡ true → eqb (comesFrom l i) u ≡ true
-      to t =
-          let a = leb-true (start u) i (left-of (leb (start u) i) (ltb i (start (u + 1))) t) in
-          let b = ltb-true i (start (u + 1)) (right-of (leb (start u) i) (ltb i (start (u + 1))) t) in
-          let x = leb-true u (comesFrom l (start u)) (first-here (notBelow l u) m (omega (arith, a, h))) in
-          let y = L .together (start u) i a h in
-          let z = leb-false (u + 1) (comesFrom l i) (first-below (notBelow l (u + 1)) m i b) in
-          eq-eqb (comesFrom l i) u (omega (arith, x, y, z))
-
-      from : eqb (comesFrom l i) u ≡ true → leb (start u) i && ltb i (start (u + 1)) ≡ true
-      from t =
-          let e = eqb-true (comesFrom l i) u t in
-          both (leb (start u) i) (ltb i (start (u + 1)))
-          (le-leb (start u) i (⊎-elim (λ k. k) (λ (k : i < start u). absurd (omega (arith, e, leb-false u (comesFrom l i) (first-below (notBelow l u) m i k)))) (le-or-lt (start u) i)))
-          (lt-ltb i (start (u + 1)) (⊎-elim (λ (k : start (u + 1) ≤ i).
-          absurd (omega (arith, e, leb-true (u + 1) (comesFrom l (start (u + 1))) (first-here (notBelow l (u + 1)) m (omega (arith, k, h))), L .together (start (u + 1)) i k h)))
-          (λ k. k) (le-or-lt (start (u + 1)) i)))
-
-  -- without u, as many fewer as its edges are
-  split : (p : ℕ → Bool) (u v : ℕ) → p u ≡ true → entering l p m v ≡ entering l (λ w. p w && not (eqb w u)) m v + leading l (start u) (start (u + 1)) v
-  unfolding entering leading
-  split p u v t =
-      count-split (λ i. p (comesFrom l i) && eqb (leadsTo l i) v) (λ i. (p (comesFrom l i) && not (eqb (comesFrom l i) u)) && eqb (leadsTo l i) v) inside m
-      (λ i h. rw (between u i h) (by-one (p (comesFrom l i)) (eqb (comesFrom l i) u) (eqb (leadsTo l i) v) (λ q. ap p (eqb-true (comesFrom l i) u q) ∙ t)))
-      ∙ ap (λ (x : ℕ). count (λ i. (p (comesFrom l i) && not (eqb (comesFrom l i) u)) && eqb (leadsTo l i) v) m + x) cut
-    where
-      inside : ℕ → Bool
-      inside i = (leb (start u) i && ltb i (start (u + 1))) && eqb (leadsTo l i) v
-
-      cut : count inside m ≡ count (λ i. leb (start u) i && eqb (leadsTo l i) v) (start (u + 1))
-      cut =
-          count-past inside (start (u + 1)) m (start-in l m (u + 1))
-          (λ i a b. ap (λ (x : Bool). (leb (start u) i && x) && eqb (leadsTo l i) v) (le-ltb i (start (u + 1)) a) ∙ ap (λ (x : Bool). x && eqb (leadsTo l i) v) (and-false (leb (start u) i)))
-          ∙ count-ext inside (λ i. leb (start u) i && eqb (leadsTo l i) v) (start (u + 1))
-          (λ i a. ap (λ (x : Bool). (leb (start u) i && x) && eqb (leadsTo l i) v) (lt-ltb i (start (u + 1)) a) ∙ ap (λ (x : Bool). x && eqb (leadsTo l i) v) (and-true (leb (start u) i)))
+  start-at u h = start-listed l m starts (L .begin) u h
 
   module _ (w : List ℕ) (busy behind done : ℕ → Bool) (U : Unsettled l m w busy behind done) (u : ℕ) (here : done u ≡ true) where
     abbrev counting : ℕ → Bool
@@ -104,7 +52,7 @@ module _ (l starts : List ℕ) (L : Layout l starts) where
 
     -- what u has to tell is counted
     pub enough : (v : ℕ) → v < 128 → leading l (start u) (start (u + 1)) v ≤ getD w v 0
-    enough v h = omega (arith, U .counts v h, split counting u v counts-here)
+    enough v h = omega (arith, U .counts v h, split l m (L .together) counting u v counts-here)
 
     module _ (new : List ℕ) (s r : News) (is-done : (v : ℕ) → isIn (s .done) v ≡ done v && not (eqb v u)) (T : Told l (start u) (start (u + 1)) w busy s new r) where
       fewer : (v : ℕ) → getD new v 0 ≤ getD w v 0
@@ -139,7 +87,7 @@ module _ (l starts : List ℕ) (L : Layout l starts) where
               arith,
               T .less v,
               U .counts v h,
-              split counting u v counts-here,
+              split l m (L .together) counting u v counts-here,
               entering-ext l (λ x. (busy x || isIn (r .behind) x) || isIn (r .done) x) (λ x. counting x && not (eqb x u)) m v counts-less,
             );
         stand = T .behind .are;

@@ -13,7 +13,8 @@ use Rattle.model.proofs.Places.{count-more, count-none, count-up}
 use Rattle.vset.specs.Members.{isIn, Members}
 use Rattle.vset.proofs.Gather.{members-ext}
 use Rattle.waiting.specs.declared.News.{News}
-use Rattle.waiting.specs.Waiting.{leadsTo, leading, Released, Told}
+use Rattle.waiting.specs.Waiting.{leading, Released, Told}
+use Rattle.starts.specs.Starts.{leadsTo}
 use Rattle.places.proofs.Turns.{put-at}
 
 -- ---- how many edges lead to v
@@ -22,15 +23,35 @@ pub leading-none : (l : List ℕ) (a v : ℕ) → leading l a a v ≡ 0
 unfolding leading
 leading-none l a v = count-none (λ i. leb a i && eqb (leadsTo l i) v) a (λ i h. ap (λ (b : Bool). b && eqb (leadsTo l i) v) (lt-leb a i h))
 
-pub leading-more : (l : List ℕ) (a i v : ℕ) → a ≤ i → leading l a (i + 1) v ≡ leading l a i v + bit (eqb (leadsTo l i) v)
+leading-more : (l : List ℕ) (a i v : ℕ) → a ≤ i → leading l a (i + 1) v ≡ leading l a i v + bit (eqb (leadsTo l i) v)
 unfolding leading
 leading-more l a i v h =
     count-more (λ i. leb a i && eqb (leadsTo l i) v) i
     ∙ ap (λ (b : Bool). count (λ i. leb a i && eqb (leadsTo l i) v) i + bit (b && eqb (leadsTo l i) v)) (le-leb a i h)
 
-pub leading-up : (l : List ℕ) (a i b v : ℕ) → i ≤ b → leading l a i v ≤ leading l a b v
+leading-up : (l : List ℕ) (a i b v : ℕ) → i ≤ b → leading l a i v ≤ leading l a b v
 unfolding leading
 leading-up l a i b v h = count-up (λ i. leb a i && eqb (leadsTo l i) v) i b h
+
+-- ---- one edge more is followed: one less for the vertex that it leads to, and nothing else
+
+module _ (l : List ℕ) (a i : ℕ) (h : a ≤ i) (w old : List ℕ) (less : (v : ℕ) → getD old v 0 ≡ getD w v 0 - leading l a i v) where
+  abbrev end : ℕ
+  end = leadsTo l i
+
+  one-more : leading l a (i + 1) end ≡ leading l a i end + 1
+  one-more = leading-more l a i end h ∙ ap (λ (b : Bool). leading l a i end + bit b) (eq-eqb end end refl)
+
+  -- an edge that is still to be followed is counted
+  pub still-counted : (b : ℕ) → i < b → leading l a b end ≤ getD w end 0 → 0 < getD old end 0
+  still-counted b k enough = omega (arith, less end, enough, leading-up l a (i + 1) b end (omega arith), one-more)
+
+  pub one-followed : (new : List ℕ) → getD new end 0 ≡ getD old end 0 - 1 → ((v : ℕ) → (v ≡ end → ⊥) → getD new v 0 ≡ getD old v 0) → (v : ℕ) → getD new v 0 ≡ getD w v 0 - leading l a (i + 1) v
+  one-followed new here other v = go (ℕ-discrete v end)
+    where
+      go : Dec (v ≡ end) → getD new v 0 ≡ getD w v 0 - leading l a (i + 1) v
+      go (yes e) = rw e (omega (arith, here, less end, one-more))
+      go (no e) = omega (arith, other v e, less v, leading-more l a i v h ∙ ap (λ (b : Bool). leading l a i v + bit b) (ne-eqb end v (λ q. e (sym q))))
 
 -- ---- numbers
 
@@ -65,13 +86,6 @@ module _ (l : List ℕ) (a : ℕ) (w : List ℕ) (busy : ℕ → Bool) (s : News
         (λ v. sym (ap (λ (b : Bool). isIn (s .done) v || (b && not (busy v))) (some-none (getD w v 0)) ∙ or-false (isIn (s .done) v)));
   }
 
-  -- an edge that is still to be followed is counted
-  pub left-to-tell : (i : ℕ) (old : List ℕ) (r : News) → Told l a i w busy s old r → a ≤ i → (b : ℕ) → i < b → leading l a b (leadsTo l i) ≤ getD w (leadsTo l i) 0
-      → 0 < getD old (leadsTo l i) 0
-  left-to-tell i old r T h b k enough =
-      let t = leadsTo l i in
-      omega (arith, T .less t, enough, leading-up l a (i + 1) b t (omega arith), leading-more l a i t h ∙ ap (λ (b : Bool). leading l a i t + bit b) (eq-eqb t t refl))
-
   module _ (i : ℕ) (old : List ℕ) (r : News) (T : Told l a i w busy s old r) (h : a ≤ i) (known : leadsTo l i < 128) (some : 0 < getD old (leadsTo l i) 0)
       (new : List ℕ) (r′ : News) (R : Released old (leadsTo l i) busy r new r′) where
     abbrev t : ℕ
@@ -86,17 +100,10 @@ module _ (l : List ℕ) (a : ℕ) (w : List ℕ) (busy : ℕ → Bool) (s : News
     at-other : (v : ℕ) → (v ≡ t → ⊥) → getD new v 0 ≡ getD old v 0
     at-other v e = at v ∙ ap (λ (b : Bool). pick b (getD old t 0 - 1) (getD old v 0)) (ne-eqb v t e)
 
-    -- one edge more leads to t, and to nobody else
-    more-t : leading l a (i + 1) t ≡ leading l a i t + 1
-    more-t = leading-more l a i t h ∙ ap (λ (b : Bool). leading l a i t + bit b) (eq-eqb t t refl)
-
-    more-other : (v : ℕ) → (v ≡ t → ⊥) → leading l a (i + 1) v ≡ leading l a i v
-    more-other v e = leading-more l a i v h ∙ ap (λ (b : Bool). leading l a i v + bit b) (ne-eqb t v (λ q. e (sym q))) ∙ omega arith
-
     pub told-more : Told l a (i + 1) w busy s new r′
     told-more = record {
       long = ap (λ (x : List ℕ). length x) (R .less) ∙ length-set old t (getD old t 0 - 1) ∙ T .long;
-      less = λ v. less v (ℕ-discrete v t);
+      less = one-followed l a i h w old (T .less) new at-t at-other;
       behind = members-ext (r′ .behind) (λ k. isIn (r .behind) k && not (eqb (getD old t 0) 1 && eqb k t)) (λ v. ltb 0 (getD new v 0)) (R .behind)
           (λ v. ap (λ (b : Bool). b && not (eqb (getD old t 0) 1 && eqb v t)) (T .behind .are v) ∙ behind v (ℕ-discrete v t));
       done = members-ext (r′ .done) (λ k. isIn (r .done) k || ((eqb (getD old t 0) 1 && not (busy t)) && eqb k t)) (λ v. goal v) (R .done)
@@ -105,10 +112,6 @@ module _ (l : List ℕ) (a : ℕ) (w : List ℕ) (busy : ℕ → Bool) (s : News
       where
         goal : ℕ → Bool
         goal v = isIn (s .done) v || ((ltb 0 (getD w v 0) && eqb (getD new v 0) 0) && not (busy v))
-
-        less : (v : ℕ) → Dec (v ≡ t) → getD new v 0 ≡ getD w v 0 - leading l a (i + 1) v
-        less v (yes e) = rw e (omega (arith, at-t, T .less t, more-t))
-        less v (no e) = omega (arith, at-other v e, T .less v, more-other v e)
 
         behind : (v : ℕ) → Dec (v ≡ t) → ltb 0 (getD old v 0) && not (eqb (getD old t 0) 1 && eqb v t) ≡ ltb 0 (getD new v 0)
         behind v (yes e) =

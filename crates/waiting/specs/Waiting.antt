@@ -3,7 +3,6 @@
 -- Each vertex's number of unfinished predecessors, counted over the edge list. A vertex stands behind an unfinished one just where its
 -- number is not 0. While finished vertices still have to tell their successors, they count as unfinished.
 --
---   comesFrom l i, leadsTo l i         the ends of edge i of the list l
 --   entering l p m v                   how many of the first m edges of l lead to v from a vertex for which p holds
 --   leading l a b v                    how many of the edges from place a up to b lead to v
 --   edgesBy starts                     the number of edges, by where the edges of each vertex begin
@@ -15,20 +14,14 @@
 use mathlib.Core.Path.{_≡_}
 use mathlib.Core.Bool.{Bool, true, false, not, _&&_, _||_}
 use mathlib.Core.List.{List}
-use Prim.Native.Nat.{ℕ, _-_, _/_, _%_, _≤_, _<_}
+use Prim.Native.Nat.{ℕ, _-_, _≤_, _<_}
 use lib.Dec.{eqb, ltb, leb}
 use lib.ListN.{getD, length, set}
 use Rattle.model.specs.Places.{count, table}
 use Rattle.vset.specs.declared.Vset.{Vset}
 use Rattle.vset.specs.Members.{isIn, Members}
-use Rattle.starts.specs.Starts.{startIn}
+use Rattle.starts.specs.Starts.{comesFrom, leadsTo, startIn}
 use Rattle.waiting.specs.declared.News.{News}
-
-abbrev pub comesFrom : List ℕ → ℕ → ℕ
-comesFrom l i = getD l i 0 / 256
-
-abbrev pub leadsTo : List ℕ → ℕ → ℕ
-leadsTo l i = getD l i 0 % 256
 
 unfoldable pub entering : List ℕ → (ℕ → Bool) → ℕ → ℕ → ℕ
 entering l p m v = count (λ i. p (comesFrom l i) && eqb (leadsTo l i) v) m

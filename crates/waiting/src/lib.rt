@@ -7,7 +7,8 @@ ghost use lib.Dec.{ltb};
 ghost use lib.ListN.{getD, length};
 ghost use Rattle.model.specs.Places.{table};
 ghost use Rattle.vset.specs.Members.{isIn, Members};
-ghost use Rattle.waiting.specs.Waiting.{comesFrom, leadsTo, entering, leading, edgesBy, Layout, Released, Told, Unsettled, Settled};
+ghost use Rattle.waiting.specs.Waiting.{entering, leading, edgesBy, Layout, Released, Told, Unsettled, Settled};
+ghost use Rattle.starts.specs.Starts.{comesFrom, leadsTo};
 use vset::Vset;
 
 // Who stands behind an unfinished vertex, and who is finished and has not told its successors.
@@ -73,10 +74,12 @@ pub fn settle(
     let mut hind = behind;
     let mut rest = done;
     while !vset::is_empty(rest) {
-        let u = vset::lowest(rest);
+        let next = vset::next(rest);
+        let u = next.v;
+        let left = next.rest;
         let others = News {
             behind: hind,
-            done: vset::without(rest, u),
+            done: left,
         };
         let news = tell(edge, starts[u], starts[u + 1], waiting, busy, others);
         hind = news.behind;
@@ -86,7 +89,7 @@ pub fn settle(
 }
 
 // How many edges lead to each vertex.
-fn counted(edge: &[u16; 1024], edges: u16) -> [u8; 128]
+pub fn counted(edge: &[u16; 1024], edges: u16) -> [u8; 128]
     requires { ⌜ edges ≤ 1024 ⌝ }
     requires { ⌜ ((i : ℕ) → i < edges → leadsTo (now edge) i < 128) ⌝ }
     requires { ⌜ ((v : ℕ) → entering (now edge) (λ u. true) edges v ≤ 128) ⌝ }

@@ -24,7 +24,9 @@ use Rattle.writer.specs.Write.{fileOf, wroteBy, wroteOf, roomBy, roomAft
 use Rattle.writer.specs.Image.{part, seen}
 use Rattle.writer.proofs.Acceptance.{few-types, few-vertices, few-edges}
 use Rattle.writer.proofs.Alike.{Alike, alike-whole, alike-records, judged-alike}
-use Rattle.writer.proofs.Part.{Stands, type, vertex, edge, stands, record-type, part-records, part-byte, vertex-order, edge-order, part-types, part-vertices, part-edges, file-part}
+use Rattle.graph.proofs.Judging.{judge-skip}
+use Rattle.graph.proofs.Orders.{Among, type, vertex, edge, among}
+use Rattle.writer.proofs.Part.{record-type, part-records, part-byte, part-types, part-vertices, part-edges, file-part, parted, part-quiet}
 
 -- files whose first c records are the same
 module _ (s t : List ℕ) (c : ℕ) (agree : (k : ℕ) → k < c → (j : ℕ) → j < 8 → byteAt s k j ≡ byteAt t k j) where
@@ -53,16 +55,16 @@ module _ (s t : List ℕ) (c : ℕ) (agree : (k : ℕ) → k < c → (j : ℕ) �
 module _ (g : Lists) (a b e : ℕ) where
   rule5-past : (k : ℕ) → a ≤ k → k < records (part g a b e) → rule5 (part g a b e) k ≡ false
   unfolding rule5
-  rule5-past k h l = go (stands a b k)
+  rule5-past k h l = go (among a b k)
     where
-      go : Stands a b k → rule5 (part g a b e) k ≡ false
+      go : Among a b k → rule5 (part g a b e) k ≡ false
       go (type x) = absurd (omega arith)
-      go (vertex x y) = rw (vertex-order g a b e k x y) refl
-      go (edge x) = rw (edge-order g a b e k x (omega (arith, part-records g a b e))) refl
+      go (vertex x y) = rw (parted g a b e .vertices k x y) refl
+      go (edge x) = rw (parted g a b e .edges k x (omega (arith, part-records g a b e))) refl
 
   rule7-past : (k : ℕ) → a + b ≤ k → k < records (part g a b e) → rule7 (part g a b e) k ≡ false
   unfolding rule7
-  rule7-past k h l = rw (edge-order g a b e k h (omega (arith, part-records g a b e))) refl
+  rule7-past k h l = rw (parted g a b e .edges k h (omega (arith, part-records g a b e))) refl
 
 -- what goes alike where the types are all there, and where the vertices are too
 module _ (g : Lists) (a b e b′ e′ : ℕ) where
@@ -196,19 +198,24 @@ uncut : (g : Lists) → judgeFrom 4 (seen g) ≡ Accepted → seen g ≡ fileOf 
 unfolding seen
 uncut g h = rw (file-part g) (uncut-part g (length (g .cores)) (length (g .kinds)) (length (g .edges)) h)
 
+-- the numbers 2 and 3 apply to no such file, so that judging from 2 on is judging from 4 on
+from-two : (g : Lists) → judgeFrom 2 (seen g) ≡ judgeFrom 4 (seen g)
+unfolding seen
+from-two g = judge-skip 2 4 (seen g) (lit≤ tt) (lit≤ tt) (part-quiet g (min (length (g .cores)) 11) (min (length (g .kinds)) 129) (min (length (g .edges)) 1025))
+
 -- the answer, and what the room holds, from what the code looks at
 module _ (g : Lists) (as-many : length (g .kinds) ≡ length (g .wcets)) where
-  pub wrote-cut : (room : ℕ) → wroteBy (judgeFrom 4 (seen g)) (length (seen g)) room ≡ wroteOf g room
+  pub wrote-cut : (room : ℕ) → wroteBy (judgeFrom 2 (seen g)) (length (seen g)) room ≡ wroteOf g room
   unfolding wroteOf
-  wrote-cut room = rw (eq-eqb (length (g .kinds)) (length (g .wcets)) as-many, ← cut g) (go (judgeFrom 4 (seen g)) refl)
+  wrote-cut room = rw (from-two g, eq-eqb (length (g .kinds)) (length (g .wcets)) as-many, ← cut g) (go (judgeFrom 4 (seen g)) refl)
     where
       go : (x : Answer) → judgeFrom 4 (seen g) ≡ x → wroteBy x (length (seen g)) room ≡ wroteBy x (length (fileOf g)) room
       go Accepted e = rw (uncut g e) refl
       go (Refused r) e = refl
 
-  pub room-cut : (out : List ℕ) → roomBy (wroteBy (judgeFrom 4 (seen g)) (length (seen g)) (length out)) (seen g) out ≡ roomAfter g out
+  pub room-cut : (out : List ℕ) → roomBy (wroteBy (judgeFrom 2 (seen g)) (length (seen g)) (length out)) (seen g) out ≡ roomAfter g out
   unfolding roomAfter
-  room-cut out = rw (← wrote-cut (length out)) (go (judgeFrom 4 (seen g)) refl)
+  room-cut out = rw (← wrote-cut (length out), from-two g) (go (judgeFrom 4 (seen g)) refl)
     where
       go : (x : Answer) → judgeFrom 4 (seen g) ≡ x → roomBy (wroteBy x (length (seen g)) (length out)) (seen g) out ≡ roomBy (wroteBy x (length (seen g)) (length out)) (fileOf g) out
       go Accepted e = rw (uncut g e) refl

@@ -22,7 +22,8 @@ use Rattle.writer.specs.Lists.{Lists, listsIn, listsOf}
 use Rattle.writer.specs.Write.{typeOf, vertexOf, edgeOf, joined, fileOf}
 use Rattle.writer.specs.Image.{recordAt, part}
 use Rattle.writer.proofs.Joined.{joined-ext, joined-length, joined-at}
-use Rattle.writer.proofs.Part.{Stands, type, vertex, edge, stands, count-between, record-type, record-vertex, record-edge, file-part}
+use Rattle.graph.proofs.Orders.{Among, type, vertex, edge, among, count-between}
+use Rattle.writer.proofs.Part.{record-type, record-vertex, record-edge, file-part}
 
 -- ---- a list of bytes by its records
 
@@ -244,9 +245,9 @@ module _ (s : List ℕ) (bytes : (i : ℕ) → getD s i 0 < 256) (ok : judgeFrom
       cc
 
   record-back : (k : ℕ) → k < records s → recordAt (tables s) (many s 0) (many s 1) k ≡ recordIn s k
-  record-back k l = go (stands (many s 0) (many s 1) k)
+  record-back k l = go (among (many s 0) (many s 1) k)
     where
-      go : Stands (many s 0) (many s 1) k → recordAt (tables s) (many s 0) (many s 1) k ≡ recordIn s k
+      go : Among (many s 0) (many s 1) k → recordAt (tables s) (many s 0) (many s 1) k ≡ recordIn s k
       go (type x) = record-type (tables s) (many s 0) (many s 1) k x ∙ type-back k l x
       go (vertex x y) = record-vertex (tables s) (many s 0) (many s 1) k x y ∙ vertex-back k l x y
       go (edge x) = record-edge (tables s) (many s 0) (many s 1) k x ∙ edge-back k l x

@@ -11,16 +11,17 @@ use lib.Dec.{lit<, lit≤}
 use borrow.Author.Tests.{le-ltb, eq-eqb}
 use Rattle.model.specs.Places.{table, padded}
 use Rattle.model.proofs.Tables.{table-length, table-at}
-use Rattle.graph.specs.File.{records, byteAt, wordAt, keyAt, column, words, keys, graphOf}
-use Rattle.graph.specs.Rules.{holds, places, rule1, rule2}
+use Rattle.graph.specs.File.{wordAt, keyAt, column, words, keys, graphOf}
+use Rattle.graph.specs.Rules.{holds, places, rule1}
 use Rattle.graph.specs.Judge.{judgeFrom}
 use Rattle.graph.specs.declared.Answer.the-variants.{Accepted}
 use Rattle.graph.proofs.Judging.{none-holds}
 use Rattle.writer.specs.Lists.{Lists, filled, graphFrom}
 use Rattle.writer.specs.Write.{typeOf, vertexOf, edgeOf, fileOf}
-use Rattle.writer.specs.Image.{recordAt, part}
+use Rattle.writer.specs.Image.{part}
 use Rattle.writer.proofs.Acceptance.{all-quiet, few-types, few-vertices, few-edges}
-use Rattle.writer.proofs.Part.{Stands, type, vertex, edge, stands, record-type, record-vertex, record-edge, part-length, part-records, part-byte, type-order, vertex-order, edge-order, part-types, part-vertices, part-edges, part-sorted, file-part}
+use Rattle.graph.proofs.Orders.{parted-sorted}
+use Rattle.writer.proofs.Part.{record-type, record-vertex, record-edge, part-length, part-byte, part-types, part-vertices, part-edges, file-part, known, parted}
 
 -- ---- the lists
 
@@ -84,35 +85,6 @@ graph-back g h =
 -- ---- the numbers below 4
 
 module _ (g : Lists) (a b e : ℕ) where
-  zero-byte : (k : ℕ) → k < a + b + e → byteAt (part g a b e) k 3 ≡ 0
-  unfolding typeOf vertexOf edgeOf
-  zero-byte k l = part-byte g a b e k 3 l (lit< tt) ∙ go (stands a b k)
-    where
-      go : Stands a b k → getD (recordAt g a b k) 3 0 ≡ 0
-      go (type x) = rw (record-type g a b k x) refl
-      go (vertex x y) = rw (record-vertex g a b k x y) refl
-      go (edge x) = rw (record-edge g a b k x) refl
-
-  type-word : (k : ℕ) → k < a → wordAt (part g a b e) k ≡ 0
-  unfolding wordAt typeOf
-  type-word k l =
-      let h : k < a + b + e = omega arith in
-      rw (part-byte g a b e k 4 h (lit< tt), part-byte g a b e k 5 h (lit< tt), part-byte g a b e k 6 h (lit< tt), part-byte g a b e k 7 h (lit< tt), record-type g a b k l) refl
-
-  edge-word : (k : ℕ) → a + b ≤ k → k < a + b + e → wordAt (part g a b e) k ≡ 0
-  unfolding wordAt edgeOf
-  edge-word k m h =
-      rw (part-byte g a b e k 4 h (lit< tt), part-byte g a b e k 5 h (lit< tt), part-byte g a b e k 6 h (lit< tt), part-byte g a b e k 7 h (lit< tt), record-edge g a b k m) refl
-
-  known : (k : ℕ) → k < records (part g a b e) → rule2 (part g a b e) k ≡ false
-  unfolding rule2
-  known k l = go (stands a b k) (omega (arith, part-records g a b e))
-    where
-      go : Stands a b k → k < a + b + e → rule2 (part g a b e) k ≡ false
-      go (type x) h = rw (type-order g a b e k x, zero-byte k h, type-word k x) refl
-      go (vertex x y) h = rw (vertex-order g a b e k x y, zero-byte k h) refl
-      go (edge x) h = rw (edge-order g a b e k x h, zero-byte k h, edge-word k x h) refl
-
   module _ (ok : judgeFrom 4 (part g a b e) ≡ Accepted) where
     short : rule1 (part g a b e) ≡ false
     unfolding rule1
@@ -132,8 +104,8 @@ module _ (g : Lists) (a b e : ℕ) where
       where
         go : Dec (num ≡ 1) → Dec (num ≡ 2) → Dec (num ≡ 3) → (k : ℕ) → k < places (part g a b e) num → holds (part g a b e) num k ≡ false
         go (yes x) y z = rw x (λ k h. short)
-        go (no x) (yes y) z = rw y known
-        go (no x) (no y) (yes z) = rw z (part-sorted g a b e)
+        go (no x) (yes y) z = rw y (known g a b e)
+        go (no x) (no y) (yes z) = rw z (parted-sorted (parted g a b e))
         go (no x) (no y) (no z) = none-holds 4 (part g a b e) ok num (omega arith) l
 
     part-accepted : judgeFrom 1 (part g a b e) ≡ Accepted

@@ -34,12 +34,13 @@ fn copied(file: &[u8], out: &mut [u8]) -> Wrote
     Wrote::Bytes(size)
 }
 
-// Copies a file that no number from 4 on refuses. The numbers below 4 cannot apply to a file that is made record by record.
+// Copies a file that no number from 2 on refuses. The numbers 2 and 3 cannot apply to a file that is made record by record, so that the
+// answer is that of the numbers from 4 on.
 fn judged(file: &[u8], out: &mut [u8]) -> Wrote
     requires { ⌜ length (now file) ≤ 9320 ⌝ }
-    ensures { λ r. ⌜ (r ≡ wroteBy (judgeFrom 4 (now (file .entry))) (length (now (file .entry))) (length (now (out .entry)))) × (now (out .exit) ≡ roomBy r (now (file .entry)) (now (out .entry))) ⌝ }
+    ensures { λ r. ⌜ (r ≡ wroteBy (judgeFrom 2 (now (file .entry))) (length (now (file .entry))) (length (now (out .entry)))) × (now (out .exit) ≡ roomBy r (now (file .entry)) (now (out .entry))) ⌝ }
 {
-    let answer = reader::judge_from(file, 4);
+    let answer = reader::judge(file);
     match answer {
         Answer::Accepted => copied(file, out),
         Answer::Refused(r) => Wrote::Refused(r),
@@ -67,7 +68,8 @@ pub fn write(cores: &[u8], kinds: &[u8], wcets: &[u32], edges: &[u16], out: &mut
     let a = least(cores.len(), 11);
     let b = least(kinds.len(), 129);
     let e = least(edges.len(), 1025);
-    let t = image::image(cores, kinds, wcets, edges, a, b, e);
+    let mut t = [0u8; 9320];
+    image::image(cores, kinds, wcets, edges, a, b, e, &mut t);
     let size = 8 * (a + b + e);
     judged(&t[..size], out)
 }

@@ -1,12 +1,12 @@
 -- What the reader says, and what was found for its graph.
-use denote.Ref.{now}
+use Rattle.reader.proofs.Laying.{usable}
+use Rattle.bounds.proofs.Entries.{bounds-accepted, bounds-refused}
 use borrow.Author.Needs.{needs}
-use Rattle.bounds.proofs.Entries.{read-accepted, bounds-accepted, bounds-refused}
 use Rattle.bounds.proofs.bounds.Statement.{statement}
 use Rattle.bounds.proofs.bounds.Tie as tie
 
-read-requires : tie.Need-read-requires
-read-requires c κs = search needs
+take-requires : tie.Need-take-requires
+take-requires c κs = search needs
 
 enum-known-answer : tie.Need-enum-known-answer
 enum-known-answer c = search needs
@@ -17,27 +17,30 @@ nothing-requires c κs = search needs
 enum-told : tie.Need-enum-told
 enum-told c = search needs
 
-figures-requires : tie.Need-figures-requires
-figures-requires c κs =
-    let b = c .before .before .before .before in
-    read-accepted (now (b .before .args .file)) (c .before .before .before .read .ensures) (λ i. b .shared-slice-known .given i .fits) (c .before .enum-told .given .1)
+figures-of-requires : tie.Need-figures-of-requires
+figures-of-requires c κs =
+    let t = c .before .before .before .before .before .before in
+    let r = t .before .before in
+    usable _ _ _ _ _ _ _ _ (r .take .ensures) (λ i. r .before .before .before .before .before .before .before .shared-slice-known .given i .fits) (t .enum-told .given .1)
 
 returns : tie.Need-returns
 returns c =
-    bounds-refused (now (c .before .before .before .before .before .before .args .file)) (c .before .before .before .before .read .ensures) (c .nothing .result) (c .before .before .answer .given .1) (c .nothing .ensures .0) (c .nothing .ensures .1)
+    let r = c .before .before .before .before in
+    bounds-refused _ (r .take .ensures) (c .nothing .result) (c .before .before .answer .given .1) (c .nothing .ensures .0) (c .nothing .ensures .1)
 
 returns-2 : tie.Need-returns-2
 returns-2 c =
-    bounds-accepted (now (c .before .before .before .before .before .before .args .file)) (c .before .before .before .before .read .ensures) (c .figures .result) (c .before .before .enum-told .given .1) (c .figures .ensures .0) (c .figures .ensures .1)
+    let t = c .before .before .before .before .before .before .before in
+    bounds-accepted _ (t .before .before .take .ensures) (c .figures-of .result) (t .enum-told .given .1) (c .figures-of .ensures .0) (c .figures-of .ensures .1)
 
 pub bounds-spec : {M : Type 1} → statement M
 bounds-spec =
     tie.close
     (tie.spec
-    read-requires
+    take-requires
     enum-known-answer
     nothing-requires
     enum-told
-    figures-requires
+    figures-of-requires
     returns
     returns-2)

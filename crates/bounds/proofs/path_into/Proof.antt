@@ -1,64 +1,27 @@
--- Room for N, or the trace from the source.
-use native.Mathlib.Omega.{arith}
+use Rattle.bounds.proofs.Again.{usable-again}
 use borrow.Author.Needs.{needs}
-use Rattle.graph.specs.Model.{asModel}
-use Rattle.paths.specs.Ahead.{weigh, Weighed, Summed}
-use Rattle.paths.specs.Trace.{Traceable}
-use Rattle.weights.specs.declared.Measure.the-variants.{Scaled}
-use Rattle.bounds.specs.Answers.{narrow}
-use Rattle.bounds.proofs.Weighing.{small-stages, weighed-by, scaled-most}
-use Rattle.bounds.proofs.Entries.{path-found}
 use Rattle.bounds.proofs.path_into.Statement.{statement}
 use Rattle.bounds.proofs.path_into.Tie as tie
 
-returns : tie.Need-returns
-returns c = narrow (omega arith)
+along-requires : tie.Need-along-requires
+along-requires c κs = search needs
 
-starts-requires : tie.Need-starts-requires
-starts-requires c κs = search needs
+header-of-requires : tie.Need-header-of-requires
+header-of-requires c κs = search needs
 
-weights-requires : tie.Need-weights-requires
-weights-requires c κs = small-stages (c .before .before .before .before .before .before .before .pre)
-
--- the weights of the graph, and its sums
-weighed : (c : tie.After-weights) → Weighed (c .before .before .before .before .before .before .before .before .args .t1) (c .before .before .before .before .before .before .before .before .args .t1 .edge) (c .before .before .before .before .before .starts .result) (c .before .before .before .before .before .before .before .before .args .t1 .n) (c .weights .result)
-weighed c =
-    let p = c .before .before .before .before .before .before .before .before .pre in
-    weighed-by p (c .before .before .before .before .before .starts .ensures) Scaled 720720000000 (scaled-most p) (omega arith) (c .weights .ensures)
-
-summed : (c : tie.After-longest) → Summed (asModel (c .before .before .before .before .before .before .before .before .before .before .before .before .before .args .t1)) (weigh (c .before .before .before .before .before .weights .result)) (c .longest .result)
-summed c = c .longest .ensures _ (weighed (c .before .before .before .before .before))
-
-longest-requires : tie.Need-longest-requires
-longest-requires c κs = (_, weighed (c .before .before .before .before))
-
-traceable : (c : tie.After-trace-arg3) → Traceable (c .before .before .before .before .before .before .before .before .before .before .before .before .before .before .before .before .before .before .before .before .args .t1) (c .before .before .before .before .before .before .before .before .before .before .before .before .before .before .before .before .before .before .before .before .args .t1 .edge) (c .before .before .before .before .before .before .before .before .before .before .before .before .before .before .before .before .before .starts .result) (c .before .before .before .before .before .before .before .before .before .before .before .before .weights .result) (c .before .before .before .before .before .before .before .longest .result .ahead) (c .before .before .before .before .before .before .before .longest .result .head) (c .before .before .before .before .before .before .before .before .before .before .before .before .before .before .before .before .before .before .before .before .args .out .now)
-unfolding asModel
-traceable c =
-    let l = c .before .before .before .before .before .before .before in
-    let w = weighed (l .before .before .before .before .before) in
-    record { rows = w .rows; light = w .light; longest = summed l .longest; vertex = summed l .head .known; room = omega arith }
-
-trace-requires : tie.Need-trace-requires
-trace-requires c κs = (_, traceable c)
+path-of-requires : tie.Need-path-of-requires
+path-of-requires c κs =
+    let f = c .before .before .before .before .before .before .before .before in
+    usable-again (f .before .before .before .before .pre) (f .header-of .ensures) (f .before .along .ensures)
 
 same-length : tie.Need-same-length
 same-length c = search needs
 
-returns-2 : tie.Need-returns-2
-returns-2 c =
-    let t = c .before .before .before in
-    let l = t .before .before .before .before .before .before .before in
-    path-found (l .before .before .before .before .before .before .before .before .before .before .before .before .before .pre) _ _ (l .before .before .before .before .before .weights .ensures) (summed l) (traceable t .room) (c .before .before .trace .ensures _ (traceable t))
+returns : tie.Need-returns
+returns c =
+    let f = c .before .before .before .before .before .before .before .before .before .before .before in
+    rw (f .header-of .ensures) at (c .before .before .path-of .ensures)
 
 pub path-into-spec : {M : Type 1} → statement M
 path-into-spec =
-    tie.close
-    (tie.spec
-    returns
-    starts-requires
-    weights-requires
-    longest-requires
-    trace-requires
-    same-length
-    returns-2)
+    tie.close (tie.spec along-requires header-of-requires path-of-requires same-length returns)

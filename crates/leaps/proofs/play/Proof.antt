@@ -14,38 +14,23 @@ use Rattle.leaps.specs.Leaps.{workOf, Kept}
 use Rattle.leaps.proofs.Leaping.{keeps-on, ran-whole}
 use Rattle.leaps.proofs.play.Statement.{statement}
 use Rattle.leaps.proofs.play.Tie as tie
-use Rattle.leaps.proofs.play.Reads as reads
-use Rattle.leaps.proofs.play.Lts as lts
-use Rattle.leaps.proofs.at_start.Reads as at-start-reads
-use Rattle.leaps.proofs.leap.Reads as leap-reads
-use Rattle.starts.proofs.starts.Reads as starts-reads
-use Rattle.choice.proofs.of_kinds.Reads as of-kinds-reads
-use Rattle.vset.proofs.is_empty.Reads as is-empty-reads
 
 abbrev Inv-loop : tie.InvT-loop
-Inv-loop g cores edge words starts m₀ left₀ waiting₀ finishes₀ m left waiting finishes = Kept g (λ v. getD left₀ v 0) (workOf g m left waiting finishes)
+Inv-loop g starts cores edge words m₀ left₀ waiting₀ finishes₀ m left waiting finishes = Kept g (λ v. getD left₀ v 0) (workOf g m left waiting finishes)
 
 abbrev μ-loop : tie.MeasureT-loop
-μ-loop g cores edge words starts m₀ left₀ waiting₀ finishes₀ m left waiting finishes = count (isIn (m .busy)) 128
+μ-loop g starts cores edge words m₀ left₀ waiting₀ finishes₀ m left waiting finishes = count (isIn (m .busy)) 128
 
--- src/lib.rt:147:17
 of-kinds-requires : tie.Need-of-kinds-requires Inv-loop μ-loop
 of-kinds-requires c κs = let s = c .before .before .before .before in (s .pre .0 .few-vertices, kinds-known (s .args .g) (s .pre .0))
 
--- src/lib.rt:148:18
-starts-requires : tie.Need-starts-requires Inv-loop μ-loop
-starts-requires c κs = c .before .before .before .before .before .pre .0 .few-edges
-
--- src/lib.rt:149:9
 at-start-requires : tie.Need-at-start-requires Inv-loop μ-loop
-at-start-requires c κs = let s = c .before .before .before .before .before .before .before .before in (s .pre .0, (s .pre .1, (refl, c .before .before .starts .ensures)))
+at-start-requires c κs = let s = c .before .before .before .before .before .before in (s .pre .0, (s .pre .1 .0, (refl, s .pre .1 .1)))
 
--- src/lib.rt:154:5
 loop-holds : tie.Need-loop-holds Inv-loop μ-loop
 unfolding leftOf
 loop-holds c = c .before .before .before .at-start .ensures
 
--- src/lib.rt:154:12
 is-empty-requires : tie.Need-is-empty-requires Inv-loop μ-loop
 is-empty-requires c κs = search needs
 
@@ -56,31 +41,27 @@ some-busy c =
     let h = lowest-in busy _ (c .before .is-empty .result) refl (c .before .is-empty .ensures) (c .if1 .taken) in
     count-some busy 128 _ (h .0) (h .1)
 
--- src/lib.rt:155:9
 leap-requires : tie.Need-leap-requires Inv-loop μ-loop
 leap-requires c κs =
-    let s = c .before .before .before .before .before .before .before .before .before .before .before .before .before .before .before .before .before .before .before .before .before .before in
-    let l = c .before .before .before .before .before .before .before .before .before .loop in
-    (s .pre .0, (record { cores-are = refl; words-are = c .before .before .before .before .before .before .before .before .before .before .before .before .before .before .before .before .before .of-kinds .ensures; edges-are = refl; starts-are = c .before .before .before .before .before .before .before .before .before .before .before .before .before .before .before .before .starts .ensures }, (l .inv .sound, some-busy (c .before .before .before .before .before .before .before))))
+    let s = c .before .before .before .before .before .before .before .before .before .before .before .before .before .before .before .before .before .before .before in
+    let l = c .before .before .before .before .before .before .before .before .loop in
+    (s .pre .0, (record { cores-are = refl; words-are = c .before .before .before .before .before .before .before .before .before .before .before .before .before .before .of-kinds .ensures; edges-are = refl; starts-are = s .pre .1 .1 }, (l .inv .sound, some-busy (c .before .before .before .before .before .before))))
 
--- src/lib.rt:154:5
 loop-less : tie.Need-loop-less Inv-loop μ-loop
 loop-less c = c .leap .ensures .fewer
 
--- src/lib.rt:154:5
 loop-again : tie.Need-loop-again Inv-loop μ-loop
 unfolding leftOf
 loop-again c =
-    let s = c .before .before .before .before .before .before .before .before .before .before .before .before .before .before .before .before .before .before .before .before .before .before .before in
-    let l = c .before .before .before .before .before .before .before .before .before .before .loop in
+    let s = c .before .before .before .before .before .before .before .before .before .before .before .before .before .before .before .before .before .before .before .before in
+    let l = c .before .before .before .before .before .before .before .before .before .loop in
     let t = c .leap in
-    keeps-on (s .args .g) (s .pre .0) (leftOf (s .args .run)) (workOf (s .args .g) (l .m) (l .left) (l .waiting) (l .finishes)) (workOf (s .args .g) (t .result) (t .last .1 .1 .1 .1 .1 .1 .0) (t .last .1 .1 .1 .1 .1 .1 .1 .0) (t .last .1 .1 .1 .1 .1 .1 .1 .1 .0)) (l .inv) (some-busy (c .before .before .before .before .before .before .before .before)) (t .ensures)
+    keeps-on (s .args .g) (s .pre .0) (leftOf (s .args .run)) (workOf (s .args .g) (l .m) (l .left) (l .waiting) (l .finishes)) (workOf (s .args .g) (t .result) (t .last .1 .1 .1 .1 .1 .1 .0) (t .last .1 .1 .1 .1 .1 .1 .1 .0) (t .last .1 .1 .1 .1 .1 .1 .1 .1 .0)) (l .inv) (some-busy (c .before .before .before .before .before .before .before)) (t .ensures)
 
--- src/lib.rt:139:1
 returns : tie.Need-returns Inv-loop μ-loop
 unfolding leftOf
 returns c =
-    let s = c .before .before .before .before .before .before .before .before .before .before .before .before .before .before .before in
+    let s = c .before .before .before .before .before .before .before .before .before .before .before .before .before in
     let l = c .before .before .loop in
     let none = not-is-true (any (isIn (l .m .busy)) 128) (sym (c .before .is-empty .ensures) ∙ not-false (c .before .is-empty .result) (c .if1 .left)) in
     ran-whole (s .args .g) (s .pre .0) (leftOf (s .args .run)) (workOf (s .args .g) (l .m) (l .left) (l .waiting) (l .finishes)) (l .inv) (count-none (isIn (l .m .busy)) 128 (λ v h. any-false (isIn (l .m .busy)) 128 v h none))
@@ -92,7 +73,6 @@ play-spec =
     Inv-loop
     μ-loop
     of-kinds-requires
-    starts-requires
     at-start-requires
     loop-holds
     is-empty-requires

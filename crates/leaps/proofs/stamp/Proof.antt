@@ -6,15 +6,10 @@ use native.Mathlib.Omega.{arith}
 use borrow.Author.Needs.{needs}
 use Rattle.model.specs.Places.{count}
 use Rattle.vset.specs.Members.{isIn}
-use Rattle.vset.proofs.Taking.{lowest-in, fewer-in, emptied}
+use Rattle.vset.proofs.Taking.{some-in, lowest-in, fewer-in, emptied}
 use Rattle.leaps.proofs.OneByOne.{Stamping, stamping-none, stamping-more, stamping-all}
 use Rattle.leaps.proofs.stamp.Statement.{statement}
 use Rattle.leaps.proofs.stamp.Tie as tie
-use Rattle.leaps.proofs.stamp.Reads as reads
-use Rattle.leaps.proofs.stamp.Lts as lts
-use Rattle.vset.proofs.is_empty.Reads as is-empty-reads
-use Rattle.vset.proofs.lowest.Reads as lowest-reads
-use Rattle.vset.proofs.without.Reads as without-reads
 
 abbrev Inv-loop : tie.InvT-loop
 Inv-loop finishes₀ instant rest₀ finishes rest = Stamping finishes₀ (isIn rest₀) instant finishes (isIn rest)
@@ -22,50 +17,38 @@ Inv-loop finishes₀ instant rest₀ finishes rest = Stamping finishes₀ (isIn 
 abbrev μ-loop : tie.MeasureT-loop
 μ-loop finishes₀ instant rest₀ finishes rest = count (isIn rest) 128
 
--- src/lib.rt:68:5
 loop-holds : tie.Need-loop-holds Inv-loop μ-loop
 loop-holds c = stamping-none (now (c .args .finishes)) (isIn (c .args .new)) (c .args .instant) (c .pre)
 
--- src/lib.rt:68:12
 is-empty-requires : tie.Need-is-empty-requires Inv-loop μ-loop
 is-empty-requires c κs = search needs
 
--- src/lib.rt:69:13
-lowest-requires : tie.Need-lowest-requires Inv-loop μ-loop
-lowest-requires c κs = search needs
+next-requires : tie.Need-next-requires Inv-loop μ-loop
+next-requires c κs = some-in (isIn (c .before .before .loop .rest)) (c .before .is-empty .result) (c .before .is-empty .ensures) (c .if1 .taken)
 
 -- there is a member left, so the lowest is one
-found : (c : tie.After-lowest Inv-loop μ-loop) → (c .lowest .result < 128) × (isIn (c .before .before .before .loop .rest) (c .lowest .result) ≡ true)
-found c = let l = c .before .before .before .loop in lowest-in (isIn (l .rest)) (c .lowest .result) (c .before .before .is-empty .result) (c .lowest .ensures) (c .before .before .is-empty .ensures) (c .before .if1 .taken)
+found : (c : tie.After-next Inv-loop μ-loop) → (c .next .result .v < 128) × (isIn (c .before .before .before .loop .rest) (c .next .result .v) ≡ true)
+found c = let l = c .before .before .before .loop in lowest-in (isIn (l .rest)) (c .next .result .v) (c .before .before .is-empty .result) (c .next .ensures .0) (c .before .before .is-empty .ensures) (c .before .if1 .taken)
 
--- src/lib.rt:70:9
 mul-finishes : tie.Need-mul-finishes Inv-loop μ-loop
 mul-finishes c = omega (arith, found c .0)
 
--- src/lib.rt:70:9
 element-write-finishes : tie.Need-element-write-finishes Inv-loop μ-loop
 element-write-finishes c = found c .0
 
--- src/lib.rt:71:9
-without-requires : tie.Need-without-requires Inv-loop μ-loop
-without-requires c κs = found c .0
-
--- src/lib.rt:68:5
 loop-less : tie.Need-loop-less Inv-loop μ-loop
 loop-less c =
     let l = c .before .before .before .before .loop in
     let h = found (c .before) in
-    fewer-in (isIn (l .rest)) (isIn (c .without .result)) (c .before .lowest .result) (c .without .ensures .are) (h .1) (h .0)
+    fewer-in (isIn (l .rest)) (isIn (c .before .next .result .rest)) (c .before .next .result .v) (c .before .next .ensures .1 .are) (h .1) (h .0)
 
--- src/lib.rt:68:5
 loop-again : tie.Need-loop-again Inv-loop μ-loop
 loop-again c =
     let l = c .before .before .before .before .loop in
     let a = c .before .before .before .before .before .args in
     let h = found (c .before) in
-    stamping-more (now (a .finishes)) (isIn (a .new)) (a .instant) (l .finishes) (isIn (l .rest)) (c .before .lowest .result) (l .inv) (h .0) (h .1) (isIn (c .without .result)) (c .without .ensures .are)
+    stamping-more (now (a .finishes)) (isIn (a .new)) (a .instant) (l .finishes) (isIn (l .rest)) (c .before .next .result .v) (l .inv) (h .0) (h .1) (isIn (c .before .next .result .rest)) (c .before .next .ensures .1 .are)
 
--- src/lib.rt:63:1
 returns : tie.Need-returns Inv-loop μ-loop
 returns c =
     let l = c .before .before .loop in
@@ -80,10 +63,9 @@ stamp-spec =
     μ-loop
     loop-holds
     is-empty-requires
-    lowest-requires
+    next-requires
     mul-finishes
     element-write-finishes
-    without-requires
     loop-less
     loop-again
     returns)

@@ -1,30 +1,27 @@
-use mathlib.Core.Path.{sym, _∙_}
-use native.Mathlib.Omega.{arith}
-use lib.Dec.{lit≤}
-use Rattle.graph.specs.Judge.{readOf}
-use Rattle.graph.proofs.Judging.{judge-first, judge-skip, short}
+use Rattle.reader.proofs.Laying.{handed-over, handed-back}
 use borrow.Author.Needs.{needs}
 use Rattle.reader.proofs.read.Statement.{statement}
 use Rattle.reader.proofs.read.Tie as tie
 
-wrong-length-requires : tie.Need-wrong-length-requires
-wrong-length-requires c κs = search needs
+take-requires : tie.Need-take-requires
+take-requires c κs = search needs
 
-refused-whole-requires : tie.Need-refused-whole-requires
-refused-whole-requires c κs = search needs
+enum-known-answer : tie.Need-enum-known-answer
+enum-known-answer c = search needs
+
+no-graph-requires : tie.Need-no-graph-requires
+no-graph-requires c κs = search needs
+
+enum-told : tie.Need-enum-told
+enum-told c = search needs
 
 returns : tie.Need-returns
-unfolding readOf
-returns c = rw (judge-first _ (sym (c .before .before .wrong-length .ensures) ∙ c .before .if1 .taken)) (c .refused-whole .ensures)
-
-take-from-requires : tie.Need-take-from-requires
-take-from-requires c κs = (lit≤ tt, lit≤ tt, omega (arith, short _ (sym (c .before .wrong-length .ensures) ∙ c .if1 .left)))
+returns c = rw (c .no-graph .ensures) (handed-back _ _ _ _ _ _ _ _ (c .before .before .before .before .take .ensures) (c .before .before .answer .given .1))
 
 returns-2 : tie.Need-returns-2
-unfolding readOf
-returns-2 c = rw (judge-skip _ (sym (c .before .before .wrong-length .ensures) ∙ c .before .if1 .left)) (c .take-from .ensures)
+returns-2 c = handed-over _ _ _ _ _ _ _ _ (c .before .before .take .ensures) (c .enum-told .given .1)
 
 pub read-spec : {M : Type 1} → statement M
 read-spec =
     tie.close
-    (tie.spec wrong-length-requires refused-whole-requires returns take-from-requires returns-2)
+    (tie.spec take-requires enum-known-answer no-graph-requires enum-told returns returns-2)

@@ -6,40 +6,29 @@ use Rattle.schedule.proofs.Answers.{played-accepted, played-refused}
 use borrow.Author.Needs.{needs}
 use Rattle.schedule.proofs.play_on.Statement.{statement}
 use Rattle.schedule.proofs.play_on.Tie as tie
-use Rattle.schedule.proofs.play_on.Reads as reads
-use Rattle.schedule.proofs.play_on.Lts as lts
-use Rattle.schedule.proofs.play_into.Reads as play-into-reads
-use Rattle.times.proofs.judge.Reads as judge-reads
 
--- src/lib.rt:144:9
 judge-requires : tie.Need-judge-requires
-judge-requires c κs = c .before .before .pre .few-vertices
+judge-requires c κs = c .before .before .pre .0 .few-vertices
 
--- src/lib.rt:146:25
 enum-known-answer : tie.Need-enum-known-answer
 enum-known-answer c = search needs
 
--- src/lib.rt:147:49
 enum-told : tie.Need-enum-told
 enum-told c = search needs
 
--- src/lib.rt:147:29
 play-into-requires : tie.Need-play-into-requires
 play-into-requires c κs =
     let s = c .before .before .before .before .before .before in
-    (s .pre, times-fit (s .args .g) (now (s .args .times)) (sym (c .before .before .before .judge .ensures) ∙ c .before .enum-told .given .1))
+    (s .pre .0, (times-fit (s .args .g) (now (s .args .times)) (sym (c .before .before .before .judge .ensures) ∙ c .before .enum-told .given .1), s .pre .1))
 
--- src/lib.rt:140:1
 returns : tie.Need-returns
 returns c =
     let s = c .before .before .before .before .before .before in
     (sym (played-refused (s .args .g) (now (s .args .times)) _ (sym (c .before .before .before .judge .ensures) ∙ c .before .answer .given .1) (length (now (s .args .finishes)))), refl)
 
--- src/lib.rt:140:1
 same-length : tie.Need-same-length
 same-length c = search needs
 
--- src/lib.rt:140:1
 returns-2 : tie.Need-returns-2
 returns-2 c =
     let s = c .before .before .before .before .before .before .before .before .before in

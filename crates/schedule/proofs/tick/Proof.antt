@@ -1,39 +1,30 @@
 use mathlib.Core.Path.{sym, _∙_}
 use denote.Ref.{now}
-use Rattle.schedule.proofs.Answers.{read-accepted, tick-accepted, tick-refused}
+use Rattle.reader.proofs.Laying.{read-accepted}
+use Rattle.schedule.proofs.Answers.{tick-accepted, tick-refused}
 use borrow.Author.Needs.{needs}
 use Rattle.schedule.proofs.tick.Statement.{statement}
 use Rattle.schedule.proofs.tick.Tie as tie
-use Rattle.schedule.proofs.tick.Reads as reads
-use Rattle.schedule.proofs.tick.Lts as lts
-use Rattle.reader.proofs.read.Reads as read-reads
-use Rattle.schedule.proofs.tick_on.Reads as tick-on-reads
 
--- src/lib.rt:108:9
 read-requires : tie.Need-read-requires
 read-requires c κs = search needs
 
--- src/lib.rt:111:25
 enum-known-answer : tie.Need-enum-known-answer
 enum-known-answer c = search needs
 
--- src/lib.rt:116:17
 enum-told : tie.Need-enum-told
 enum-told c = search needs
 
--- src/lib.rt:117:13
 tick-on-requires : tie.Need-tick-on-requires
 tick-on-requires c κs =
     let s = c .before .before .before .before .before in
-    read-accepted (now (s .args .file)) (c .before .before .before .read .result) (c .before .before .before .read .ensures) (λ i. c .before .before .before .before .shared-slice-known .given i .fits) (c .before .enum-told .given .1)
+    read-accepted (now (s .args .file)) (c .before .before .before .read .ensures) (λ i. c .before .before .before .before .shared-slice-known .given i .fits) (c .before .enum-told .given .1)
 
--- src/lib.rt:105:1
 returns : tie.Need-returns
 returns c =
     let s = c .before .before .before .before .before in
     sym (tick-refused (now (s .args .file)) (c .before .before .before .read .result) (c .before .before .before .read .ensures) _ (c .before .answer .given .1) (s .args .run))
 
--- src/lib.rt:105:1
 returns-2 : tie.Need-returns-2
 returns-2 c =
     let s = c .before .before .before .before .before .before in

@@ -3,7 +3,7 @@ use mathlib.Core.Path.{ap, sym, _∙_}
 use denote.Ref.{now}
 use Rattle.graph.specs.Model.{AcceptedGraph}
 use Rattle.graph.specs.declared.Taken.{Taken}
-use Rattle.bounds.proofs.Entries.{read-accepted}
+use Rattle.reader.proofs.Laying.{read-accepted}
 use borrow.Author.Needs.{needs}
 use Rattle.show.proofs.sheet.Statement.{statement}
 use Rattle.show.proofs.sheet.Tie as tie

@@ -9,7 +9,8 @@ use lib.Dec.{eqb}
 use lib.ListN.{getD, length, length-set, getD-replicate}
 use Rattle.model.specs.Places.{pick, bit}
 use Rattle.model.proofs.Bools.{clash, same-test}
-use Rattle.waiting.specs.Waiting.{leadsTo, entering}
+use Rattle.waiting.specs.Waiting.{entering}
+use Rattle.starts.specs.Starts.{leadsTo}
 use Rattle.places.proofs.Turns.{as-table, put-at}
 use Rattle.waiting.proofs.Numbers.{entering-none, entering-more, entering-up}
 use Rattle.waiting.proofs.counted.Statement.{statement}

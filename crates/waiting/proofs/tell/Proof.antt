@@ -6,8 +6,9 @@ use borrow.Author.Needs.{needs}
 use lib.ListN.{getD}
 use Rattle.vset.specs.Members.{isIn}
 use Rattle.vset.proofs.Words.{itself}
-use Rattle.waiting.specs.Waiting.{leadsTo, Told}
-use Rattle.waiting.proofs.Telling.{told-none, told-more, left-to-tell}
+use Rattle.waiting.specs.Waiting.{Told}
+use Rattle.starts.specs.Starts.{leadsTo}
+use Rattle.waiting.proofs.Telling.{told-none, told-more, still-counted}
 use Rattle.waiting.proofs.tell.Statement.{statement}
 use Rattle.waiting.proofs.tell.Tie as tie
 use Rattle.waiting.proofs.tell.Reads as reads
@@ -36,7 +37,7 @@ some c =
     let s = c .before .before in
     let l = c .before .loop in
     let a = s .args in
-    left-to-tell (now (a .edge)) (a .start) (now (a .waiting)) (isIn (a .busy)) (a .s) (l .i) (l .waiting) (l .told) (l .inv .1 .1) (l .inv .0) (a .end) (omega (arith, c .loop-test .taken)) (s .pre .1 .1 .1 .0 (leadsTo (now (a .edge)) (l .i)) (known c))
+    still-counted (now (a .edge)) (a .start) (l .i) (l .inv .0) (now (a .waiting)) (l .waiting) (l .inv .1 .1 .less) (a .end) (omega (arith, c .loop-test .taken)) (s .pre .1 .1 .1 .0 (leadsTo (now (a .edge)) (l .i)) (known c))
 
 -- src/lib.rt:54:44
 mul-to : tie.Need-mul-to Inv-loop μ-loop

@@ -26,6 +26,9 @@ least-requires-2 c κs = search needs
 least-requires-3 : tie.Need-least-requires-3
 least-requires-3 c κs = search needs
 
+slice-aggregate-image : tie.Need-slice-aggregate-image
+slice-aggregate-image c = search needs
+
 image-requires : tie.Need-image-requires
 image-requires c κs = search needs
 
@@ -43,13 +46,13 @@ array-share-prefix-t c = search needs
 
 slice-aggregate-judged : tie.Need-slice-aggregate-judged
 slice-aggregate-judged c =
-    let n : ℕ = c .before .before .before .before .least .result + c .before .before .before .least2 .result + c .before .before .least3 .result in
-    omega (arith, length-take (8 * n) (c .before .image .result))
+    let n : ℕ = c .before .before .before .before .before .before .least .result + c .before .before .before .before .before .least2 .result + c .before .before .before .before .least3 .result in
+    omega (arith, length-take (8 * n) (c .before .before .image .last .1 .1 .1 .1 .1 .1 .1 .0), c .before .before .image .ensures .1)
 
 judged-requires : tie.Need-judged-requires
 judged-requires c κs =
-    let n : ℕ = c .before .before .before .before .before .least .result + c .before .before .before .before .least2 .result + c .before .before .before .least3 .result in
-    omega (arith, length-take (8 * n) (c .before .before .image .result))
+    let n : ℕ = c .before .before .before .before .before .before .before .least .result + c .before .before .before .before .before .before .least2 .result + c .before .before .before .before .before .least3 .result in
+    omega (arith, length-take (8 * n) (c .before .before .before .image .last .1 .1 .1 .1 .1 .1 .1 .0), c .before .before .before .image .ensures .1)
 
 same-length : tie.Need-same-length
 same-length c = search needs
@@ -57,18 +60,18 @@ same-length c = search needs
 returns-2 : tie.Need-returns-2
 unfolding part seen
 returns-2 c =
-    let s = c .before .before .before .before .before .before .before .before .before .before .before .before .before .before .before .args in
-    let i = c .before .before .before .before .before .image in
-    let x = c .before .before .before .before .before .before .before .before .least in
-    let y = c .before .before .before .before .before .before .before .least2 in
-    let z = c .before .before .before .before .before .before .least3 in
+    let s = c .before .before .before .before .before .before .before .before .before .before .before .before .before .before .before .before .before .args in
+    let i = c .before .before .before .before .before .before .image in
+    let x = c .before .before .before .before .before .before .before .before .before .before .least in
+    let y = c .before .before .before .before .before .before .before .before .before .least2 in
+    let z = c .before .before .before .before .before .before .before .before .least3 in
     let g : Lists = lists (s .cores .now) (s .kinds .now) (s .wcets .now) (s .edges .now) in
     let n : ℕ = x .result + y .result + z .result in
-    let f : take (8 * n) (i .result) ≡ seen g =
+    let f : take (8 * n) (i .last .1 .1 .1 .1 .1 .1 .1 .0) ≡ seen g =
     rw (i .ensures .0, ← x .ensures, ← y .ensures, ← z .ensures) (imaged-take (recordAt g (x .result) (y .result)) (record-length g (x .result) (y .result)) n) in
     let p = rw f at (c .before .before .judged .ensures .0) in
     let q = rw f at (c .before .before .judged .ensures .1) in
-    let as-many = c .before .before .before .before .before .before .before .before .before .if1 .left in
+    let as-many = c .before .before .before .before .before .before .before .before .before .before .before .if1 .left in
     (p ∙ wrote-cut g as-many (length (s .out .now)), rw p at q ∙ room-cut g as-many (s .out .now))
 
 pub write-spec : {M : Type 1} → statement M
@@ -79,6 +82,7 @@ write-spec =
     least-requires
     least-requires-2
     least-requires-3
+    slice-aggregate-image
     image-requires
     add-size
     add-size-2

@@ -1,47 +1,90 @@
--- After r sweeps each vertex is known from which every path has fewer than r edges.
+-- The sums of the vertices from place j on are done.
+use mathlib.Core.Path.{_≡_}
 use Prim.Native.Nat.{_-_, _≤_, _<_}
 use native.Mathlib.Omega.{arith}
-use lib.Dec.{ltb}
 use borrow.Author.Needs.{needs}
-use borrow.Author.Tests.{ltb-true}
-use mathlib.Core.Bool.{not}
-use Rattle.model.proofs.Bools.{left-of}
-use Rattle.paths.proofs.Sums.{laid, Sweeping, sweeping-none, sweeping-more, sweeping-done}
+use denote.Ref.{now}
+use lib.ListN.{getD}
+use Rattle.paths.proofs.Sums.{Done, done-none, done-vertex, done-visitable, done-more, done-summed}
 use Rattle.paths.proofs.ahead.longest.Statement.{statement}
 use Rattle.paths.proofs.ahead.longest.Tie as tie
 
 abbrev Inv-loop : tie.InvT-loop
-Inv-loop edge start n weight sums₀ known₀ last₀ all₀ r₀ sums known last all r = (r ≤ n) × Sweeping edge start n weight sums known last all r
+Inv-loop edge start order n weight sums₀ j₀ sums j = (j ≤ n) × Done edge start order n weight sums j
 
 abbrev μ-loop : tie.MeasureT-loop
-μ-loop edge start n weight sums₀ known₀ last₀ all₀ r₀ sums known last all r = n - r
+μ-loop edge start order n weight sums₀ j₀ sums j = j
 
 loop-holds : tie.Need-loop-holds Inv-loop μ-loop
-loop-holds c = (search needs, sweeping-none (c .pre .1))
+loop-holds c = (search needs, done-none _ _ _ _ _)
 
-more : (c : tie.In-loop Inv-loop μ-loop) → c .before .loop .r < c .before .before .args .n
-more c =
-    let l = c .before .loop in
-    ltb-true (l .r) (c .before .before .args .n) (left-of (ltb (l .r) (c .before .before .args .n)) (not (l .all)) (c .loop-test .taken))
+sub-j : tie.Need-sub-j Inv-loop μ-loop
+sub-j c = search needs
 
-sweep-requires : tie.Need-sweep-requires Inv-loop μ-loop
-sweep-requires c κs =
-    let p = c .before .before .before .before .before .pre .1 in
-    (omega (arith, more (c .before .before .before), p .rows .accepted .few-vertices, p .vertices), (laid (p .rows) (p .vertices) (p .light), c .before .before .before .before .loop .inv .1 .known))
+element-copy-out-u : tie.Need-element-copy-out-u Inv-loop μ-loop
+element-copy-out-u c =
+    let p = c .before .before .pre .1 in
+    omega (arith, c .before .loop .inv .0, p .vertices, p .rows .accepted .few-vertices)
 
-add-r : tie.Need-add-r Inv-loop μ-loop
-add-r c = omega (arith, more (c .before .before .before .before))
+cast-u : tie.Need-cast-u Inv-loop μ-loop
+cast-u c =
+    let l = c .before .before .loop in
+    omega (arith, done-vertex (c .before .before .before .pre .1) (l .j - 1) (omega (arith, l .inv .0)))
+
+most-ahead-requires : tie.Need-most-ahead-requires Inv-loop μ-loop
+most-ahead-requires c κs =
+    let l = c .before .before .before .loop in
+    done-visitable (c .before .before .before .before .pre .1) (l .sums) (l .j) (l .j - 1) (omega arith) (l .inv .0) (l .inv .1)
+
+-- the place that is stored to
+vertex : (c : tie.After-most-ahead Inv-loop μ-loop) → getD (now (c .before .before .before .before .before .args .order)) (c .before .before .before .before .loop .j - 1) 0 < 128
+vertex c =
+    let l = c .before .before .before .before .loop in
+    done-vertex (c .before .before .before .before .before .pre .1) (l .j - 1) (omega (arith, l .inv .0))
+
+mul-sums : tie.Need-mul-sums Inv-loop μ-loop
+mul-sums c = omega (arith, vertex c)
+
+array-write-sums : tie.Need-array-write-sums Inv-loop μ-loop
+array-write-sums c = vertex c
 
 loop-less : tie.Need-loop-less Inv-loop μ-loop
-loop-less c = omega (arith, more (c .before .before .before .before))
+loop-less c = search needs
 
 loop-again : tie.Need-loop-again Inv-loop μ-loop
-loop-again c = (omega (arith, more (c .before .before .before .before)), sweeping-more (c .before .before .before .before .before .loop .inv .1) (c .sweep .ensures))
+loop-again c =
+    let l = c .before .before .before .before .loop in
+    (search needs, done-more (c .before .before .before .before .before .pre .1) (l .sums) (l .j) (l .j - 1) (omega arith) (l .inv .0) (l .inv .1) (c .most-ahead .result) (c .most-ahead .ensures))
+
+element-copy-out-t21 : tie.Need-element-copy-out-t21 Inv-loop μ-loop
+element-copy-out-t21 c = search needs
+
+cast-t22 : tie.Need-cast-t22 Inv-loop μ-loop
+cast-t22 c =
+    let p = c .before .before .before .pre .1 in
+    omega (arith, done-vertex p 0 (omega (arith, p .vertices, p .rows .accepted .some-vertex)))
 
 returns : tie.Need-returns Inv-loop μ-loop
-returns c = sweeping-done (c .before .loop .inv .1) (c .loop-test .left) (c .before .loop .inv .0)
+returns c g T =
+    let l = c .before .before .loop in
+    let e : l .j ≡ 0 = omega arith in
+    done-summed T (l .sums) (rw e at (l .inv .1))
 
 pub longest-spec : {M : Type 1} → statement M
 longest-spec =
     tie.close
-    (tie.spec Inv-loop μ-loop loop-holds sweep-requires add-r loop-less loop-again returns)
+    (tie.spec
+    Inv-loop
+    μ-loop
+    loop-holds
+    sub-j
+    element-copy-out-u
+    cast-u
+    most-ahead-requires
+    mul-sums
+    array-write-sums
+    loop-less
+    loop-again
+    element-copy-out-t21
+    cast-t22
+    returns)

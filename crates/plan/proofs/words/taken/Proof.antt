@@ -1,6 +1,6 @@
 -- What is said of an accepted file rests on the reader's graph being accepted.
 use denote.Ref.{now}
-use Rattle.bounds.proofs.Entries.{read-accepted}
+use Rattle.reader.proofs.Laying.{read-accepted}
 use borrow.Author.Needs.{needs}
 use Rattle.plan.proofs.words.taken.Statement.{statement}
 use Rattle.plan.proofs.words.taken.Tie as tie

@@ -1,0 +1,113 @@
+-- The two longest sums, with the volume once for both.
+use mathlib.Core.Path.{_≡_, refl, ap, ap₂, _∙_}
+use Prim.Native.Nat.{ℕ, _+_, _-_, _*_, _/_}
+use native.Mathlib.Omega.{arith}
+use borrow.Author.Needs.{needs}
+use Rattle.model.specs.Places.{largest}
+use Rattle.model.specs.Bounds.{PARTS, vol, volume, mostCores}
+use Rattle.graph.specs.Model.{asModel}
+use Rattle.graph.specs.declared.Graph.{Graph}
+use Rattle.reader.specs.Laid.{graphIn}
+use Rattle.weights.specs.declared.Measure.the-variants.{Plain, Scaled}
+use Rattle.bounds.proofs.Weighing.{small-stages, some-cores, weighed-by, greatest-by, small-by, plain-most, plain-is, scaled-most, scaled-is}
+use Rattle.bounds.proofs.accepted.figures_of.Statement.{statement}
+use Rattle.bounds.proofs.accepted.figures_of.Tie as tie
+
+-- the graph that the lists are
+abbrev given : tie.Start → Graph
+given s = graphIn (s .args .h) (s .args .cores .now) (s .args .kind .now) (s .args .wcet .now) (s .args .edge .now)
+
+volume-requires : tie.Need-volume-requires
+volume-requires c κs = small-stages (c .pre .accepted)
+
+weights-requires : tie.Need-weights-requires
+weights-requires c κs = small-stages (c .before .pre .accepted)
+
+weights-requires-2 : tie.Need-weights-requires-2
+weights-requires-2 c κs = small-stages (c .before .before .pre .accepted)
+
+largest-requires : tie.Need-largest-requires
+largest-requires c κs =
+    let w = c .before .before in
+    let p = w .before .before .pre in
+    (_, weighed-by (p .accepted) (p .along) Plain 1000000 (plain-most (p .accepted)) (omega arith) (w .weights .ensures))
+
+most-cores-requires : tie.Need-most-cores-requires
+most-cores-requires c κs = c .before .before .before .before .before .pre .accepted .few-kinds
+
+-- what the code finds are the most cores
+cores : (c : tie.After-most-cores) → c .most-cores .result ≡ mostCores (asModel (given (c .before .before .before .before .before .before)))
+unfolding mostCores largest asModel
+cores c = c .most-cores .ensures
+
+old-b-requires : tie.Need-old-b-requires
+old-b-requires c κs =
+    let l = c .before in
+    let w = l .before .before .before in
+    let p = w .before .before .pre in (
+      small-by (p .accepted) (p .along) Plain 1000000 (plain-most (p .accepted)) (omega arith) (w .weights .ensures) (l .largest .result) (l .largest .ensures),
+      rw (cores c) (some-cores (p .accepted)),
+      w .before .volume .ensures .1,
+    )
+
+largest-requires-2 : tie.Need-largest-requires-2
+largest-requires-2 c κs =
+    let w = c .before .before .before .before .before in
+    let p = w .before .before .before .pre in
+    (_, weighed-by (p .accepted) (p .along) Scaled 720720000000 (scaled-most (p .accepted)) (omega arith) (w .weights2 .ensures))
+
+plus-requires : tie.Need-plus-requires
+plus-requires c κs =
+    let w = c .before .before .before .before .before .before in
+    let p = w .before .before .before .pre in
+    omega (arith, small-by (p .accepted) (p .along) Scaled 720720000000 (scaled-most (p .accepted)) (omega arith) (w .weights2 .ensures) (c .largest2 .result) (c .largest2 .ensures), w .before .before .volume .ensures .1)
+
+ticks-requires : tie.Need-ticks-requires
+ticks-requires c κs = search needs
+
+-- what the code adds up is the volume
+shares : (c : tie.After-volume) → c .volume .result .0 ≡ volume (asModel (given (c .before)))
+unfolding vol volume asModel
+shares c = c .volume .ensures .0
+
+returns : tie.Need-returns
+returns c =
+    let l = c .before .before in
+    let o = l .before .before in
+    let t = o .before .before in
+    let w = t .before .before in
+    let s = w .before .before .before in
+    let p = s .pre in
+    let v = shares (w .before .before) in
+    let x = t .largest .result in
+    let y = l .largest2 .result in (
+      refl,
+      record {
+        old = record {
+          len = x;
+          longest = rw (plain-is (asModel (given s))) at (greatest-by (p .accepted) (p .along) Plain 1000000 (plain-most (p .accepted)) (omega arith) (w .before .weights .ensures) x (t .largest .ensures));
+          is = o .old-b .ensures ∙ ap₂ (λ (m z : ℕ). (PARTS - PARTS / m) * x + z) (cores (o .before)) v;
+        };
+        new = record {
+          len = y;
+          longest = rw (scaled-is (asModel (given s))) at (greatest-by (p .accepted) (p .along) Scaled 720720000000 (scaled-most (p .accepted)) (omega arith) (w .weights2 .ensures) y (l .largest2 .ensures));
+          is = c .before .plus .ensures ∙ ap (λ (z : ℕ). y + z) v;
+        };
+        ticks = c .ticks .ensures;
+      },
+    )
+
+pub figures-of-spec : {M : Type 1} → statement M
+figures-of-spec =
+    tie.close
+    (tie.spec
+    volume-requires
+    weights-requires
+    weights-requires-2
+    largest-requires
+    most-cores-requires
+    old-b-requires
+    largest-requires-2
+    plus-requires
+    ticks-requires
+    returns)

@@ -1,0 +1,152 @@
+-- From the counts and the tables that were filled to the lists of the file's graph, and from them to what the reader hands back.
+use mathlib.Core.Path.{_≡_, refl, sym, ap, _∙_}
+use mathlib.Core.Bool.{Bool, true, false}
+use mathlib.Core.List.{List}
+use Prim.Native.Nat.{ℕ, _+_, _≤_, _<_}
+use native.Mathlib.Omega.{arith}
+use lib.Dec.{lit≤}
+use lib.ListN.{getD}
+use borrow.Author.Tests.{lt-ltb, le-ltb}
+use Rattle.model.specs.Places.{pick, table, padded}
+use Rattle.graph.specs.File.{records, many, column, words, keys, graphOf, noGraph}
+use Rattle.model.specs.Cycle.{cyclic}
+use Rattle.graph.specs.Model.{AcceptedGraph, asModel}
+use Rattle.graph.specs.Rules.{rule1}
+use Rattle.graph.specs.Judge.{judgeFrom, readOf}
+use Rattle.graph.specs.declared.Answer.{Answer}
+use Rattle.graph.specs.declared.Answer.the-variants.{Accepted, Refused}
+use Rattle.graph.specs.declared.Refusal.{Refusal}
+use Rattle.graph.specs.declared.Taken.{Taken}
+use Rattle.graph.proofs.Judging.{judge-first, judge-second, none-holds, all-fit}
+use Rattle.graph.proofs.Accepted.{taken, few-kinds, few-vertices, few-edges}
+use Rattle.records.specs.declared.Counts.{Counts}
+use Rattle.starts.specs.Starts.{startIn, Rows, Ordered}
+use Rattle.cycle.specs.Last.{drawn, astray, lastOf}
+use Rattle.cycle.proofs.Drawn.{drawn-last}
+use Rattle.reader.specs.Steps.{Quiet, Faultless, Found, Listed, Numbered, Edged}
+use Rattle.reader.specs.Laid.{graphIn, TakenInto, Usable}
+use Rattle.reader.specs.declared.Header.{Header}
+use Rattle.reader.specs.declared.numbers.Judged.{Judged}
+use Rattle.reader.proofs.Taking.{judged-last, quiet-found, rows}
+
+-- ---- the edges
+
+module _ (s : List ℕ) (c : Counts) (F : Faultless s c) where
+  -- the records that are listed are there
+  pub within : ((i : ℕ) → getD s i 0 < 256) → (c .kinds ≤ 10) × (c .n ≤ 128) × (c .edges ≤ 1024) × (c .kinds + c .n + c .edges ≤ records s)
+  within bytes =
+      let n = F .counted in (
+        omega (arith, n .all-kinds, few-kinds s bytes (F .quiet)),
+        omega (arith, n .all-vertices, few-vertices s bytes (F .quiet)),
+        omega (arith, n .all-edges, few-edges s bytes (F .quiet)),
+        omega (arith, n .all-kinds, n .all-vertices, n .all-edges, all-fit s),
+      )
+
+  pub listed : (e st : List ℕ) → e ≡ padded 1024 (keys s (c .kinds + c .n)) (c .edges) → st ≡ table (startIn e (c .edges)) 129 → Listed s e st
+  unfolding graphOf
+  listed e st p q =
+      let n = F .counted in
+      let x : e ≡ padded 1024 (keys s (many s 0 + many s 1)) (many s 2) = p ∙ rw (n .all-kinds, n .all-vertices, n .all-edges) refl in
+      record { edge = x; starts = q ∙ rw (x, n .all-edges) refl }
+
+  pub laid-rows : ((i : ℕ) → getD s i 0 < 256) → (e st : List ℕ) → Listed s e st → Rows e (c .edges) (c .n) st
+  laid-rows bytes e st L =
+      let n = F .counted in
+      rw (L .edge, L .starts, n .all-vertices, n .all-edges) (rows s bytes (F .quiet))
+
+  pub ended : (r : ℕ) (e st o : List ℕ) → Listed s e st → r ≡ lastOf (drawn e (c .n) (c .edges)) → (r ≡ 13 → Ordered e (c .edges) (c .n) o) → Numbered s r e st o
+  unfolding graphOf
+  ended r e st o L p q =
+      let n = F .counted in
+      record {
+        number = p ∙ rw (L .edge, n .all-vertices, n .all-edges) (drawn-last (graphOf s));
+        listed = L;
+        order = λ z. rw (L .edge, n .all-vertices, n .all-edges) at (q z);
+      }
+
+-- ---- the answer
+
+not-both : {a : Answer} {x : Refusal} → a ≡ Accepted → a ≡ Refused x → ⊥
+not-both p q = let z : _≡_ {A = ℕ} 0 1 = cc in omega arith
+
+pub faultless : (s : List ℕ) (r : Judged) → Found s r → 11 ≤ r .refusal .number → Faultless s (r .counts)
+faultless s r f h = record { counted = f .counted; quiet = quiet-found s (rw (f .number) at h) }
+
+module _ (s : List ℕ) (q : Quiet s) (r : ℕ) (is : r ≡ lastOf (graphOf s)) where
+  pub last-refused : r < 13 → judgeFrom 2 s ≡ Refused (record { number = r; place = 0 })
+  last-refused h = judged-last s q ∙ rw (← is, lt-ltb r 13 h) refl
+
+  pub last-accepted : 13 ≤ r → judgeFrom 2 s ≡ Accepted
+  last-accepted h = judged-last s q ∙ rw (← is, le-ltb r 13 h) refl
+
+pub refused-edged : {s : List ℕ} {h : Header} {e st o : List ℕ} {x : Refusal} → judgeFrom 2 s ≡ Refused x → judgeFrom 2 s ≡ Accepted → Edged s h e st o
+refused-edged p q = absurd (not-both q p)
+
+pub last-is : (s : List ℕ) (r : ℕ) → r ≡ lastOf (graphOf s) → 13 ≤ r → r ≡ 13
+unfolding lastOf
+last-is s r e h = omega (arith, e, few (cyclic (asModel (graphOf s))) (astray (graphOf s)))
+  where
+    few : (a b : Bool) → pick a 11 (pick b 12 13) ≤ 13
+    few true b = lit≤ tt
+    few false true = lit≤ tt
+    few false false = lit≤ tt
+
+-- ---- the whole graph
+
+accepted-graph : (s : List ℕ) → rule1 s ≡ false → judgeFrom 2 s ≡ Accepted → readOf s ≡ record { answer = Accepted; graph = graphOf s }
+unfolding readOf
+accepted-graph s f p = rw (judge-second s f ∙ p) refl
+
+-- a refusal leaves open what stands in the lists
+module _ {s : List ℕ} {h : Header} {c k w e st o : List ℕ} where
+  taken-refused : {x : Refusal} → h .answer ≡ Refused x → readOf s .answer ≡ Refused x → TakenInto s h c k w e st o
+  taken-refused p q = record { answer = p ∙ sym q; laid = λ a. absurd (not-both a q) }
+
+  pub taken-first : rule1 s ≡ true → h .answer ≡ Refused (record { number = 1; place = 0 }) → TakenInto s h c k w e st o
+  unfolding readOf
+  taken-first t p = taken-refused p (judge-first s t)
+
+  pub taken-not : {x : Refusal} → rule1 s ≡ false → judgeFrom 2 s ≡ Refused x → h .answer ≡ Refused x → TakenInto s h c k w e st o
+  unfolding readOf
+  taken-not f q p = taken-refused p (judge-second s f ∙ q)
+
+pub fit-lists : (s : List ℕ) (h : Header) {e st o : List ℕ} → ((i : ℕ) → getD s i 0 < 256) → judgeFrom 2 s ≡ Accepted → Edged s h e st o
+    → (h .kinds ≤ 10) × (h .n ≤ 128) × (h .kinds + h .n ≤ records s)
+fit-lists s h bytes p E =
+    let q : Quiet s = λ num f l. none-holds 2 s p num f (omega arith) in
+    (omega (arith, E .kinds, few-kinds s bytes q), omega (arith, E .vertices, few-vertices s bytes q), omega (arith, E .kinds, E .vertices, all-fit s))
+
+pub laid : (s : List ℕ) (h : Header) (c k w e st o : List ℕ) → rule1 s ≡ false → h .answer ≡ Accepted → judgeFrom 2 s ≡ Accepted → Edged s h e st o
+    → c ≡ padded 10 (column s 0 2) (h .kinds) → k ≡ padded 128 (column s (h .kinds) 2) (h .n) → w ≡ padded 128 (words s (h .kinds)) (h .n)
+    → TakenInto s h c k w e st o
+unfolding graphOf
+laid s h c k w e st o f a p E x y z =
+    let r = accepted-graph s f p in
+    record {
+      answer = a ∙ sym (ap (λ (t : Taken). t .answer) r);
+      laid = λ q. rw r (record {
+        graph = rw (x, y, z, E .listed .edge, E .kinds, E .vertices, E .edges) refl;
+        along = record { starts = E .listed .starts; order = E .order };
+      });
+    }
+
+-- the lists as one value
+pub handed-over : (s : List ℕ) (h : Header) (c k w e st o : List ℕ) → TakenInto s h c k w e st o → h .answer ≡ Accepted
+    → _≡_ {A = Taken} (record { answer = Accepted; graph = graphIn h c k w e }) (readOf s)
+handed-over s h c k w e st o T a =
+    let p : readOf s .answer ≡ Accepted = sym (T .answer) ∙ a in
+    rw (T .laid p .graph, ← p) refl
+
+pub usable : (s : List ℕ) (h : Header) (c k w e st o : List ℕ) → TakenInto s h c k w e st o → ((i : ℕ) → getD s i 0 < 256) → h .answer ≡ Accepted → Usable h c k w e st o
+usable s h c k w e st o T bytes a =
+    let p : readOf s .answer ≡ Accepted = sym (T .answer) ∙ a in
+    let L = T .laid p in
+    record { accepted = rw (L .graph) (taken s bytes p); along = rw (L .graph) (L .along) }
+
+pub handed-back : (s : List ℕ) (h : Header) (c k w e st o : List ℕ) {x : Refusal} → TakenInto s h c k w e st o → h .answer ≡ Refused x
+    → _≡_ {A = Taken} (record { answer = Refused x; graph = noGraph }) (readOf s)
+unfolding readOf
+handed-back s h c k w e st o T a = let p = sym (T .answer) ∙ a in rw p refl
+
+pub read-accepted : (s : List ℕ) {t : Taken} → t ≡ readOf s → ((i : ℕ) → getD s i 0 < 256) → t .answer ≡ Accepted → AcceptedGraph (t .graph)
+read-accepted s e bytes p = rw e (taken s bytes (sym (ap (λ (x : Taken). x .answer) e) ∙ p))

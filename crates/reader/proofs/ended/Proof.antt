@@ -1,0 +1,46 @@
+use mathlib.Core.Path.{_≡_, refl}
+use Prim.Native.Nat.{_≤_}
+use native.Mathlib.Omega.{arith}
+use lib.ListN.{getD}
+use borrow.Author.Needs.{needs}
+use Rattle.reader.specs.Steps.{Listed}
+use Rattle.reader.proofs.Laying.{within, listed, laid-rows, ended}
+use Rattle.reader.proofs.ended.Statement.{statement}
+use Rattle.reader.proofs.ended.Tie as tie
+
+add-edge-of : tie.Need-add-edge-of
+add-edge-of c =
+    let a = c .before .before in
+    let w = within (a .args .file .now) (a .args .c) (a .pre .0) (λ i. c .before .shared-slice-known .given i .fits) in
+    omega (arith, w .0, w .1)
+
+edge-of-requires : tie.Need-edge-of-requires
+edge-of-requires c κs =
+    let a = c .before .before .before in
+    let w = within (a .args .file .now) (a .args .c) (a .pre .0) (λ i. c .before .before .shared-slice-known .given i .fits) in
+    ((w .2, w .3), a .pre .1 .0)
+
+starts-requires : tie.Need-starts-requires
+starts-requires c κs =
+    let a = c .before .before .before .before .before in
+    within (a .args .file .now) (a .args .c) (a .pre .0) (λ i. c .before .before .before .before .shared-slice-known .given i .fits) .2
+
+-- the edges and their starts are those of the file's graph
+given : (c : tie.After-starts) → Listed (c .before .before .before .before .before .before .args .file .now) (c .before .before .edge-of .last .1 .1 .1 .0) (c .starts .result)
+given c =
+    let a = c .before .before .before .before .before .before in
+    listed (a .args .file .now) (a .args .c) (a .pre .0) _ _ (c .before .before .edge-of .ensures) (c .starts .ensures)
+
+last-number-requires : tie.Need-last-number-requires
+last-number-requires c κs =
+    let a = c .before .before .before .before .before .before .before .before .before in
+    (laid-rows (a .args .file .now) (a .args .c) (a .pre .0) (λ i. c .before .before .before .before .before .before .before .before .shared-slice-known .given i .fits) _ _ (given (c .before .before .before)), a .pre .1 .1)
+
+returns : tie.Need-returns
+returns c =
+    let a = c .before .before .before .before .before .before .before .before .before .before in
+    ended (a .args .file .now) (a .args .c) (a .pre .0) (c .last-number .result) _ _ _ (given (c .before .before .before .before)) (c .last-number .ensures .0) (c .last-number .ensures .1)
+
+pub ended-spec : {M : Type 1} → statement M
+ended-spec =
+    tie.close (tie.spec add-edge-of edge-of-requires starts-requires last-number-requires returns)
