@@ -2,7 +2,6 @@
 pub mod Weighing
 -- The entries:
 pub mod Entries
-pub mod Again
 -- What each public contract leaves open: nothing.
 pub mod Unique
 pub mod Outcomes

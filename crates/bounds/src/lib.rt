@@ -2,12 +2,10 @@
 ghost use mathlib.Core.Path.{_≡_};
 ghost use Rattle.graph.specs.Model.{AcceptedGraph, asModel};
 ghost use Rattle.graph.specs.declared.Answer.the-variants.{Accepted, Refused};
-ghost use Rattle.reader.specs.Laid.{Along};
 ghost use Rattle.bounds.specs.Answers.{Figures, Nothing, BoundsOf, PathOf, PathIn};
 use graph::Answer;
 use graph::Graph;
 use graph::Refusal;
-use reader::Header;
 use units::Parts;
 use units::Ticks;
 
@@ -94,36 +92,14 @@ pub fn path(file: &[u8], out: &mut [u8]) -> Pathed
 
 // ---- of a graph that was read already
 
-fn header_of(g: Graph) -> Header
-    ensures { λ h. ⌜ h ≡ record { answer = Accepted; kinds = g .kinds; n = g .n; edges = g .edges } ⌝ }
-{
-    Header {
-        answer: Answer::Accepted,
-        kinds: g.kinds,
-        n: g.n,
-        edges: g.edges,
-    }
-}
-
-// Where each vertex's edges begin, and an order along them: found again.
-fn along(g: Graph, starts: &mut [u16; 129]) -> [u8; 128]
-    requires { ⌜ AcceptedGraph g ⌝ }
-    ensures { λ r. ⌜ Along g (now (starts .exit)) r ⌝ }
-{
-    *starts = starts::starts(&g.edge, g.edges);
-    let mut order = [0u8; 128];
-    cycle::last_number(&g.edge, starts, g.n, g.edges, &mut order);
-    order
-}
-
 pub fn figures(g: Graph) -> Bounded
     requires { ⌜ AcceptedGraph g ⌝ }
     ensures { λ r. ⌜ r .answer ≡ Accepted ⌝ }
     ensures { λ r. ⌜ Figures (asModel g) r ⌝ }
 {
     let mut starts = [0u16; 129];
-    let order = along(g, &mut starts);
-    let h = header_of(g);
+    let order = reader::along(g, &mut starts);
+    let h = reader::header_of(g);
     accepted::figures_of(h, &g.cores, &g.kind, &g.wcet, &g.edge, &starts, &order)
 }
 
@@ -132,7 +108,7 @@ pub fn path_into(g: Graph, out: &mut [u8]) -> Pathed
     ensures { λ r. ⌜ PathIn g (now (out .entry)) r (now (out .exit)) ⌝ }
 {
     let mut starts = [0u16; 129];
-    let order = along(g, &mut starts);
-    let h = header_of(g);
+    let order = reader::along(g, &mut starts);
+    let h = reader::header_of(g);
     accepted::path_of(h, &g.cores, &g.kind, &g.wcet, &g.edge, &starts, &order, out)
 }

@@ -16,7 +16,7 @@ use Rattle.graph.specs.declared.Graph.{Graph}
 use Rattle.graph.specs.Model.{asModel, AcceptedGraph}
 use Rattle.vset.specs.Members.{isIn}
 use Rattle.choice.specs.Choice.{ofKind, setAt, OfKinds, goOn, wait, starts, filled, choice, chosenBy, fairBy}
-use Rattle.places.proofs.Turns.{count-past}
+use Rattle.model.proofs.Turns.{count-past}
 
 -- a place of kind k is below n
 pub of-kind-past : (l : List ℕ) (n k v : ℕ) → n ≤ v → ofKind l n k v ≡ false

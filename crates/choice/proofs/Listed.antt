@@ -14,7 +14,7 @@ use Rattle.model.proofs.Places.{count-ext}
 use Rattle.model.proofs.Leap.{ready-past}
 use Rattle.graph.specs.declared.Graph.{Graph}
 use Rattle.graph.specs.Model.{asModel, AcceptedGraph}
-use Rattle.places.proofs.Turns.{count-past}
+use Rattle.model.proofs.Turns.{count-past}
 use Rattle.choice.specs.Choice.{ofKind, goOn, wait, filled, choice}
 use Rattle.choice.proofs.ByKind.{of-kind-past, of-kind-below}
 

@@ -13,7 +13,7 @@ use Rattle.model.specs.Places.{bit, count, any, table}
 use Rattle.model.proofs.Bools.{clash, le-or-lt, both, left-of, right-of, not-true, bit-one, bit-zero}
 use Rattle.model.proofs.Places.{count-more, count-none, count-all, count-some, count-split, count-up, count-there, count-apart, none-counted, some-counted, any-more, any-ext, any-elim, any-intro, any-none}
 use Rattle.model.proofs.Tables.{table-length, table-at}
-use Rattle.places.proofs.Turns.{count-past}
+use Rattle.model.proofs.Turns.{count-past}
 use Rattle.starts.specs.Starts.{comesFrom, leadsTo, startIn, Rows}
 use Rattle.waiting.specs.Waiting.{entering, leading}
 use Rattle.waiting.proofs.Rows.{split, rows-together}

@@ -34,7 +34,7 @@ use Rattle.remains.proofs.Fewest.{least-none}
 use Rattle.leaps.proofs.ByNumbers.{settled-behind}
 use Rattle.leaps.specs.Finishes.{doneAt, finishAt, finishOf}
 use Rattle.tick.proofs.Moved.{moved-state, less-left, spend}
-use Rattle.places.proofs.Turns.{as-padded}
+use Rattle.model.proofs.Turns.{as-padded}
 use Rattle.leaps.proofs.OneLeap.{unfinished-is, unfinished-past, over-all, one-runs}
 use Rattle.leaps.specs.declared.Ended.{Ended}
 use Rattle.leaps.specs.Leaps.{Work, stamped, unfinished, Sound, Leapt, Fresh, Kept, endOf}

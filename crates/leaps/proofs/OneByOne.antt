@@ -10,7 +10,7 @@ use lib.ListN.{getD, set, length, length-set}
 use Rattle.model.specs.Places.{pick}
 use Rattle.model.proofs.Bools.{cases}
 use Rattle.vset.proofs.Taking.{still-in, taken-more, none-taken, all-taken}
-use Rattle.places.proofs.Turns.{put-at}
+use Rattle.model.proofs.Turns.{put-at}
 use Rattle.leaps.specs.Leaps.{stamped, Stamped}
 
 pub record Stamping (old : List ℕ) (on : ℕ → Bool) (t : ℕ) (new : List ℕ) (rest : ℕ → Bool) : Type 0 where

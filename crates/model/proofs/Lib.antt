@@ -5,6 +5,8 @@ pub mod Bools
 pub mod Places
 pub mod Sums
 pub mod Tables
+pub mod Turns
+pub mod Written
 -- Graphs: cycles and ranks, paths, the largest sum along a path:
 pub mod Cycles
 pub mod Paths
@@ -19,6 +21,13 @@ pub mod Shares
 pub mod Longest
 pub mod NewB1
 pub mod Compare
+-- Gains: paths put together and taken apart, sums that end and start at a vertex, the longest path without a vertex's weight, the ranking:
+pub mod Joined
+pub mod Summaries
+pub mod Scanned
+pub mod Alike
+pub mod Gains
+pub mod Rankings
 -- The theorem of demand 3:
 pub mod Demand3
 -- Schedules that name their cores: that they are the work-conserving ones, and demand 3 for them:

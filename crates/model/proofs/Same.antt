@@ -1,12 +1,12 @@
--- Schedules that give the graph's vertices the same times and run the same of them in each tick: what is left, who is finished and who is ready,
--- the finish instants, what they end by and whether they are work conserving are the same. Each law goes one way; `same-back` gives the other.
+-- Schedules that give the graph's vertices the same times and run the same of them in each tick: what is left, who is finished, who is ready and
+-- whether they are work conserving are the same. Each law goes one way; `same-back` gives the other.
 use mathlib.Core.Path.{_≡_, refl, ap, sym, _∙_}
 use mathlib.Core.Bool.{Bool, _&&_}
 use Prim.Native.Nat.{ℕ, zero, suc, _<_}
 use native.Mathlib.Omega.{arith}
 use lib.Dec.{eqb}
 use Rattle.model.specs.Graph.{Graph, WellFormed}
-use Rattle.model.specs.Schedule.{Schedule, left, Finished, done, Ready, WorkConserving, FinishOf, Finish, EndsBy}
+use Rattle.model.specs.Schedule.{Schedule, left, Finished, done, Ready, WorkConserving}
 use Rattle.model.specs.Placing.{Same}
 use Rattle.model.proofs.Places.{count-ext}
 
@@ -36,25 +36,7 @@ module _ {G : Graph} (W : WellFormed G) {S R : Schedule} (E : Same G S R) where
     before = λ u e. finished-same t u (W .from u v e) (r .before u e);
   }
 
-  -- THEOREM. The finish instants, of each vertex and of the whole, are the same; and so is what the schedules end by.
-  pub finish-of-same : (v F : ℕ) → v < G .n → FinishOf G S v F → FinishOf G R v F
-  finish-of-same v F l h = record { there = finished-same F v l (h .there); first = λ t m f. h .first t m (finished-back t v l f) }
-
-  pub finish-same : (F : ℕ) → Finish G S F → Finish G R F
-  finish-same F h = record {
-    all = λ v l. finished-same F v l (h .all v l);
-    first = λ t m a. h .first t m (λ v l. finished-back t v l (a v l));
-  }
-
 module _ {G : Graph} (W : WellFormed G) {S R : Schedule} (E : Same G S R) where
-  pub ends-same : (B : ℕ) → EndsBy G S B → EndsBy G R B
-  ends-same B h = record {
-    all = λ v l. finished-same W E _ v l (h .all v l);
-    finish = h .finish;
-    is-finish = finish-same W E (h .finish) (h .is-finish);
-    within = λ F f. h .within F (finish-same W (same-back E) F f);
-  }
-
   pub works-same : WorkConserving G S → WorkConserving G R
   works-same C = record {
     runs-ready = λ t v l x. ready-same W E t v l (C .runs-ready t v l (E .runs t v l ∙ x));

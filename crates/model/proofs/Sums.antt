@@ -5,11 +5,13 @@ use mathlib.Core.Bool.{Bool, true, false}
 use mathlib.Core.Logic.{_⊎_, inl, inr}
 use Prim.Native.Nat.{ℕ, zero, suc, _+_, _-_, _*_, _≤_, _<_, zero-le, max}
 use native.Mathlib.Nat.{mul-le-mul-right}
+use native.Mathlib.Numerals.{add-one}
 use native.Mathlib.Omega.{arith}
 use native.Mathlib.Decide.{ℕ-discrete}
 use lib.Dec.{eqb}
 use borrow.Author.Tests.{eq-eqb, ne-eqb}
 use Rattle.model.specs.Places.{pick, bit, count, any, sum, largest, along}
+use Rattle.model.proofs.Bools.{le-or-lt}
 use Rattle.model.proofs.Places.{count-any}
 
 pub sum-mono : (f g : ℕ → ℕ) (n : ℕ) → ((v : ℕ) → v < n → f v ≤ g v) → sum f n ≤ sum g n
@@ -94,6 +96,22 @@ largest-most f (suc n) v l = go (ℕ-discrete v n) (λ m. largest-most f n v m)
     go : Dec (v ≡ n) → (v < n → f v ≤ largest f n) → f v ≤ max (largest f n) (f n)
     go (yes e) ih = rw e (omega arith)
     go (no x) ih = omega (arith, ih (omega arith))
+
+pub largest-more : (f : ℕ → ℕ) (n : ℕ) → largest f (n + 1) ≡ max (largest f n) (f n)
+unfolding largest
+largest-more f n = rw add-one refl
+
+-- it is 0, or one of them
+pub largest-is : (f : ℕ → ℕ) (n : ℕ) → (largest f n ≡ 0) ⊎ ((v : ℕ) × (v < n) × (largest f n ≡ f v))
+unfolding largest
+largest-is f zero = inl refl
+largest-is f (suc n) = go (largest-is f n) (le-or-lt (largest f n) (f n))
+  where
+    go : (largest f n ≡ 0) ⊎ ((v : ℕ) × (v < n) × (largest f n ≡ f v)) → (largest f n ≤ f n) ⊎ (f n < largest f n)
+        → (max (largest f n) (f n) ≡ 0) ⊎ ((v : ℕ) × (v < suc n) × (max (largest f n) (f n) ≡ f v))
+    go r (inl l) = inr (n, omega arith, omega arith)
+    go (inl z) (inr l) = absurd (omega arith)
+    go (inr r) (inr l) = inr (r .0, omega (arith, r .1), omega (arith, r .2))
 
 -- ---- along a list
 

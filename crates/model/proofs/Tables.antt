@@ -1,13 +1,15 @@
--- Laws of `table` and `padded`, and of a list that is laid over the first places of another.
+-- Laws of `table` and `padded`, of tables with zeros past their first places, and of a list that is laid over the first places of another.
 use mathlib.Core.Path.{_≡_, refl, sym, ap, _∙_}
 use mathlib.Core.List.{List, [], _∷_, _++_, append-assoc}
+use mathlib.Core.Logic.{_⊎_, inl, inr}
 use Prim.Native.Nat.{ℕ, zero, suc, _+_, _-_, _≤_, _<_}
 use native.Mathlib.Numerals.{add-one}
 use native.Mathlib.Omega.{arith}
 use native.Mathlib.Decide.{ℕ-discrete}
 use lib.ListN.{length, getD, take, drop, set, replicate, length-append, length-replicate, List·getD-append}
-use lib.Seq.{set-at, take-at, getD-at, getD-append-add, drop-cons}
+use lib.Seq.{ext-getD, set-at, take-at, getD-at, getD-append-add, drop-cons}
 use Rattle.model.specs.Places.{table, padded}
+use Rattle.model.proofs.Bools.{le-or-lt}
 
 pub table-length : (f : ℕ → ℕ) (n : ℕ) → length (table f n) ≡ n
 unfolding table
@@ -50,7 +52,7 @@ pub padded-at : (l : ℕ) (f : ℕ → ℕ) (n i : ℕ) → i < n → getD (padd
 unfolding padded
 padded-at l f n i h = List·getD-append (table f n) (replicate (l - n) 0) 0 i (rw (table-length f n) h) ∙ table-at f n i h
 
-zeros : (l i : ℕ) → _≡_ {A = ℕ} (getD (replicate l 0) i 0) 0
+pub zeros : (l i : ℕ) → _≡_ {A = ℕ} (getD (replicate l 0) i 0) 0
 zeros zero i = refl
 zeros (suc l) zero = refl
 zeros (suc l) (suc i) = zeros l i
@@ -60,6 +62,15 @@ unfolding padded
 padded-past l f n i h =
     let e : i ≡ length (table f n) + (i - n) = omega (arith, table-length f n) in
     rw e (getD-append-add (table f n) (replicate (l - n) 0) (i - n) 0 ∙ zeros (l - n) (i - n))
+
+-- two tables of as many places that agree on the first n, with zeros past them
+pub same-table : {l m : List ℕ} {k : ℕ} (n : ℕ) → length l ≡ k → length m ≡ k → ((i : ℕ) → i < n → getD l i 0 ≡ getD m i 0) → ((i : ℕ) → n ≤ i → getD l i 0 ≡ 0)
+    → ((i : ℕ) → n ≤ i → getD m i 0 ≡ 0) → l ≡ m
+same-table {l} {m} n a b same x y = ext-getD 0 l m (a ∙ sym b) (λ i h. go i (le-or-lt n i))
+  where
+    go : (i : ℕ) → (n ≤ i) ⊎ (i < n) → getD l i 0 ≡ getD m i 0
+    go i (inl h) = x i h ∙ sym (y i h)
+    go i (inr h) = same i h
 
 -- one place more is laid
 pub set-next : (old p : List ℕ) (v n : ℕ) → length p ≡ n → n < length old → set (p ++ drop n old) n v ≡ (p ++ (v ∷ [])) ++ drop (n + 1) old

@@ -4,6 +4,9 @@ pub mod Graph
 pub mod Cycle
 pub mod Path
 pub mod Bounds
+pub mod Gain
+pub mod Summary
+pub mod Ranking
 pub mod Schedule
 pub mod Placing
 pub mod ListSchedule

@@ -7,7 +7,7 @@ use mathlib.Core.Path.{_≡_, refl, sym}
 use mathlib.Core.Bool.{Bool, true, false, _&&_}
 use mathlib.Core.List.{List, [], _∷_}
 use mathlib.Core.Logic.{_⊎_, inl, inr}
-use Prim.Native.Nat.{ℕ, zero, suc, _+_, _-_, _≤_, _<_, zero-le, max}
+use Prim.Native.Nat.{ℕ, zero, suc, _+_, _≤_, _<_, zero-le}
 use native.Mathlib.Omega.{arith}
 use native.Mathlib.Decide.{ℕ-discrete}
 use lib.Dec.{eqb, ltb}
@@ -19,7 +19,7 @@ use Rattle.model.specs.Cycle.{Acyclic}
 use Rattle.model.specs.Path.{ToSink, end, link, Greatest, LeastLongest}
 use Rattle.model.proofs.Places.{first-here, first-below}
 use Rattle.model.proofs.Bools.{clash, le-or-lt, both, left-of, right-of}
-use Rattle.model.proofs.Sums.{largest-most}
+use Rattle.model.proofs.Sums.{largest-most, largest-is}
 use Rattle.model.proofs.Cycles.{ranked}
 use Rattle.model.proofs.Paths.{to-sink, to-source, head-known, path-short, source-tells}
 use Rattle.paths.specs.Ahead.{sumAt, Ahead, Head}
@@ -49,18 +49,6 @@ stepsOf G f (suc k) u = pick (ltb (nextOf G f u) (G .n)) (nextOf G f u ∷ steps
 
 unfoldable pub leastOf : Graph → (ℕ → ℕ) → List ℕ
 leastOf G f = headOf G f ∷ stepsOf G f (G .n) (headOf G f)
-
--- the largest is 0, or one of them
-largest-is : (f : ℕ → ℕ) (n : ℕ) → (largest f n ≡ 0) ⊎ ((v : ℕ) × (v < n) × (largest f n ≡ f v))
-unfolding largest
-largest-is f zero = inl refl
-largest-is f (suc n) = go (largest-is f n) (le-or-lt (largest f n) (f n))
-  where
-    go : (largest f n ≡ 0) ⊎ ((v : ℕ) × (v < n) × (largest f n ≡ f v)) → (largest f n ≤ f n) ⊎ (f n < largest f n)
-        → (max (largest f n) (f n) ≡ 0) ⊎ ((v : ℕ) × (v < suc n) × (max (largest f n) (f n) ≡ f v))
-    go r (inl l) = inr (n, omega arith, omega arith)
-    go (inl z) (inr l) = absurd (omega arith)
-    go (inr r) (inr l) = inr (r .0, omega (arith, r .1), omega (arith, r .2))
 
 picked : (b : Bool) (x : ℕ) → b ≡ true → pick b x 0 ≡ x
 picked true x e = refl

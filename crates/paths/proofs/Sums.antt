@@ -18,7 +18,7 @@ use Rattle.model.specs.Cycle.{Acyclic}
 use Rattle.model.specs.Path.{ToSink, link}
 use Rattle.model.proofs.Bools.{le-or-lt}
 use Rattle.model.proofs.Places.{count-up, count-there}
-use Rattle.model.proofs.Tables.{table-at, padded-none, padded-past}
+use Rattle.model.proofs.Tables.{table-at, zeros}
 use Rattle.model.proofs.Cycles.{ranked, rank-below}
 use Rattle.model.proofs.Paths.{to-sink, source-tells, unraised}
 use Rattle.graph.specs.Model.{AcceptedGraph, asModel, from, to}
@@ -139,12 +139,9 @@ pub done-none : (e st o : List ℕ) (n : ℕ) (w : List ℕ) → Done e st o n w
 done-none e st o n w = record {
   size = length-replicate {A = ℕ} 128 0;
   follows = λ k l m. absurd (omega arith);
-  small = λ v. omega (arith, zeros v);
-  past = λ v l. zeros v;
+  small = λ v. omega (arith, zeros 128 v);
+  past = λ v l. zeros 128 v;
 }
-  where
-    zeros : (v : ℕ) → _≡_ {A = ℕ} (getD (replicate 128 0) v 0) 0
-    zeros v = ap (λ (l : List ℕ). getD l v 0) (padded-none 128 (λ i. 0)) ∙ padded-past 128 (λ i. 0) 0 v zero-le
 
 module _ {g : Graph} {e st o : List ℕ} {n : ℕ} {w : List ℕ} (T : Weighed g e st o n w) where
   O : Ordered e (g .edges) (g .n) o

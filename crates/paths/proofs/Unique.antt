@@ -4,10 +4,10 @@ use mathlib.Core.List.{List, _∷_, _++_}
 use mathlib.Core.Logic.{_⊎_, inl, inr}
 use Prim.Native.Nat.{ℕ, suc, _≤_, _<_}
 use native.Mathlib.Omega.{arith}
-use lib.ListN.{getD, length, drop}
-use lib.Seq.{ext-getD}
+use lib.ListN.{length, drop}
 use Rattle.model.specs.Graph.{Graph}
 use Rattle.model.proofs.Bools.{le-or-lt}
+use Rattle.model.proofs.Tables.{same-table}
 use Rattle.paths.specs.Ahead.{weigh, sumAt, Ahead, Longest, Head, Summed}
 use Rattle.paths.specs.declared.ahead.Sums.{Sums}
 use Rattle.paths.specs.Trace.{Trace, stop, on, Traced}
@@ -17,11 +17,7 @@ ahead-unique a b =
     omega (arith, a .attained, b .attained, a .unexceeded (b .path) (b .to-sink), b .unexceeded (a .path) (a .to-sink))
 
 longest-unique : {G : Graph} (f : ℕ → ℕ) (s t : List ℕ) → Longest G f s → Longest G f t → s ≡ t
-longest-unique {G} f s t a b = ext-getD 0 s t (a .size ∙ sym (b .size)) (λ v l. go v (le-or-lt (G .n) v))
-  where
-    go : (v : ℕ) → (G .n ≤ v) ⊎ (v < G .n) → getD s v 0 ≡ getD t v 0
-    go v (inl l) = a .past v l ∙ sym (b .past v l)
-    go v (inr l) = ahead-unique (a .ahead v l) (b .ahead v l)
+longest-unique {G} f s t a b = same-table (G .n) (a .size) (b .size) (λ v l. ahead-unique (a .ahead v l) (b .ahead v l)) (a .past) (b .past)
 
 head-unique : {G : Graph} (value : ℕ → ℕ) (h k : ℕ) → Head G value h → Head G value k → h ≡ k
 head-unique value h k a b = go (le-or-lt h k) (le-or-lt k h)

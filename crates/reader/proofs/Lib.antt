@@ -2,4 +2,5 @@
 pub mod Scan
 pub mod Taking
 pub mod Laying
+pub mod Again
 pub mod Outcomes

@@ -5,9 +5,10 @@ ghost use lib.ListN.{length, replicate};
 ghost use Rattle.model.specs.Places.{padded};
 ghost use Rattle.graph.specs.File.{noGraph};
 ghost use Rattle.graph.specs.Judge.{judgeFrom, readOf};
+ghost use Rattle.graph.specs.Model.{AcceptedGraph};
 ghost use Rattle.graph.specs.declared.Answer.the-variants.{Accepted, Refused};
 ghost use Rattle.reader.specs.Steps.{Faultless, Numbered, Edged};
-ghost use Rattle.reader.specs.Laid.{Blank, TakenInto};
+ghost use Rattle.reader.specs.Laid.{Blank, Along, TakenInto};
 
 mod lists; // lists.rt: the lists of a file
 mod numbers; // numbers.rt: the lowest number up to 10 that applies
@@ -192,4 +193,28 @@ pub fn read(file: &[u8]) -> Taken
             }
         }
     }
+}
+
+// ---- of a graph that was read already, for layers that are handed one
+
+pub fn header_of(g: Graph) -> Header
+    ensures { λ h. ⌜ h ≡ record { answer = Accepted; kinds = g .kinds; n = g .n; edges = g .edges } ⌝ }
+{
+    Header {
+        answer: Answer::Accepted,
+        kinds: g.kinds,
+        n: g.n,
+        edges: g.edges,
+    }
+}
+
+// Where each vertex's edges begin, and an order along them: found again.
+pub fn along(g: Graph, starts: &mut [u16; 129]) -> [u8; 128]
+    requires { ⌜ AcceptedGraph g ⌝ }
+    ensures { λ r. ⌜ Along g (now (starts .exit)) r ⌝ }
+{
+    *starts = starts::starts(&g.edge, g.edges);
+    let mut order = [0u8; 128];
+    cycle::last_number(&g.edge, starts, g.n, g.edges, &mut order);
+    order
 }

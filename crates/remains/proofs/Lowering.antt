@@ -16,7 +16,7 @@ use Rattle.vset.proofs.Gather.{members-ext}
 use Rattle.vset.proofs.Taking.{still-in, taken-more, none-taken, all-taken}
 use Rattle.remains.specs.Remains.{place, TOP, lowered, LeastFrom}
 use Rattle.remains.proofs.Fewest.{least-none, least-more, least-ext}
-use Rattle.places.proofs.Turns.{as-table, put-at}
+use Rattle.model.proofs.Turns.{as-table, put-at}
 
 -- the vertices in `on` that are no longer in the rest are lowered
 pub record Lowering (old : List ℕ) (on : ℕ → Bool) (d : ℕ) (left : List ℕ) (over : Vset) (best : ℕ) (rest : ℕ → Bool) : Type 0 where

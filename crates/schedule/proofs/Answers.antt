@@ -22,7 +22,7 @@ use Rattle.tick.specs.declared.Run.{Run}
 use Rattle.tick.specs.declared.Report.the-variants.{Refused as NoTick}
 use Rattle.tick.specs.Run.{leftOf, recordOf}
 use Rattle.remains.specs.Remains.{place}
-use Rattle.places.proofs.Turns.{table-ext}
+use Rattle.model.proofs.Turns.{table-ext}
 use Rattle.vset.specs.Members.{isIn}
 use Rattle.vset.proofs.Same.{set-in}
 use Rattle.times.specs.Times.{timesOf, judgeTimes, Fitting}

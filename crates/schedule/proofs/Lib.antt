@@ -1,5 +1,4 @@
 -- Laws that belong to no one function.
-pub mod Written
 pub mod Answers
 pub mod Outcomes
 pub mod TickByTick

@@ -20,7 +20,7 @@ use Rattle.vset.proofs.Same.{set-of, set-in}
 use Rattle.tick.specs.declared.Run.{Run}
 use Rattle.tick.specs.Run.{leftOf, stateOf, recordOf}
 use Rattle.remains.specs.Remains.{lowered, after}
-use Rattle.places.proofs.Turns.{as-padded}
+use Rattle.model.proofs.Turns.{as-padded}
 
 -- of those that ran, who has not run out of ticks has some left
 pub still-left : (b : Bool) (x : ℕ) → b && not (b && eqb x 0) ≡ b && ltb 0 x

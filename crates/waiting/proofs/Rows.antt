@@ -13,7 +13,7 @@ use Rattle.model.specs.Places.{bit, count, table}
 use Rattle.model.proofs.Bools.{clash, le-or-lt, both, left-of, right-of, same-test}
 use Rattle.model.proofs.Places.{first-below, first-here, count-ext, count-split}
 use Rattle.model.proofs.Tables.{table-at}
-use Rattle.places.proofs.Turns.{count-past}
+use Rattle.model.proofs.Turns.{count-past}
 use Rattle.starts.specs.Starts.{comesFrom, leadsTo, notBelow, startIn, Rows}
 use Rattle.starts.proofs.Together.{start-in}
 use Rattle.waiting.specs.Waiting.{entering, leading, edgesBy}

@@ -15,7 +15,7 @@ use Rattle.vset.proofs.Gather.{members-ext}
 use Rattle.waiting.specs.declared.News.{News}
 use Rattle.waiting.specs.Waiting.{leading, Released, Told}
 use Rattle.starts.specs.Starts.{leadsTo}
-use Rattle.places.proofs.Turns.{put-at}
+use Rattle.model.proofs.Turns.{put-at}
 
 -- ---- how many edges lead to v
 

@@ -1,4 +1,4 @@
-use Rattle.bounds.proofs.Again.{usable-again}
+use Rattle.reader.proofs.Again.{usable-again}
 use borrow.Author.Needs.{needs}
 use Rattle.bounds.proofs.path_into.Statement.{statement}
 use Rattle.bounds.proofs.path_into.Tie as tie

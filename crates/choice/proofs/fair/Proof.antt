@@ -10,7 +10,7 @@ use Rattle.model.specs.Places.{count}
 use Rattle.vset.specs.declared.Vset.{Vset}
 use Rattle.vset.specs.Members.{isIn}
 use Rattle.choice.specs.Choice.{setAt, fairBy}
-use Rattle.places.proofs.Turns.{every-none, every-more}
+use Rattle.model.proofs.Turns.{every-none, every-more}
 use Rattle.choice.proofs.fair.Statement.{statement}
 use Rattle.choice.proofs.fair.Tie as tie
 use Rattle.choice.proofs.fair.Reads as reads

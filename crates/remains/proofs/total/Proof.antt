@@ -5,7 +5,7 @@ use Prim.Native.Nat.{ℕ, _+_, _-_, _*_, _≤_}
 use lib.ListN.{getD}
 use Rattle.model.specs.Places.{sum}
 use Rattle.remains.specs.Remains.{place}
-use Rattle.places.proofs.Turns.{sum-none, sum-next}
+use Rattle.model.proofs.Turns.{sum-none, sum-next}
 use mir.Val.{Fits}
 use mir.Syntax.{w32}
 use Rattle.remains.proofs.total.Statement.{statement}

@@ -5,7 +5,7 @@ use Prim.Native.Nat.{_-_, _≤_}
 use mathlib.Core.Bool.{Bool, _&&_}
 use Rattle.model.specs.Places.{every}
 use Rattle.remains.specs.Remains.{noMore}
-use Rattle.places.proofs.Turns.{every-none, every-more}
+use Rattle.model.proofs.Turns.{every-none, every-more}
 use Rattle.remains.proofs.within.Statement.{statement}
 use Rattle.remains.proofs.within.Tie as tie
 use Rattle.remains.proofs.within.Reads as reads

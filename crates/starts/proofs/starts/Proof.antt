@@ -15,7 +15,7 @@ use lib.Seq.{getD-set-same, getD-set-other}
 use borrow.Author.Tests.{ltb-true, ltb-false}
 use Rattle.model.specs.Places.{table}
 use Rattle.model.proofs.Bools.{cases, le-or-lt, left-of}
-use Rattle.places.proofs.Turns.{as-table}
+use Rattle.model.proofs.Turns.{as-table}
 use Rattle.starts.specs.Starts.{startIn}
 use Rattle.starts.proofs.Together.{start-in, start-later, start-rises}
 use Rattle.starts.proofs.starts.Statement.{statement}

@@ -11,7 +11,7 @@ use Rattle.model.specs.Places.{pick, bit}
 use Rattle.model.proofs.Bools.{clash, same-test}
 use Rattle.waiting.specs.Waiting.{entering}
 use Rattle.starts.specs.Starts.{leadsTo}
-use Rattle.places.proofs.Turns.{as-table, put-at}
+use Rattle.model.proofs.Turns.{as-table, put-at}
 use Rattle.waiting.proofs.Numbers.{entering-none, entering-more, entering-up}
 use Rattle.waiting.proofs.counted.Statement.{statement}
 use Rattle.waiting.proofs.counted.Tie as tie

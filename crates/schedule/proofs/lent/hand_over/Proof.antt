@@ -6,7 +6,7 @@ use Prim.Native.Nat.{_-_, _≤_}
 use lib.ListN.{drop}
 use Rattle.model.specs.Places.{table}
 use Rattle.remains.specs.Remains.{place}
-use Rattle.schedule.proofs.Written.{written-none, written-more, written-length}
+use Rattle.model.proofs.Written.{written-none, written-more, written-length}
 use Rattle.schedule.proofs.lent.hand_over.Statement.{statement}
 use Rattle.schedule.proofs.lent.hand_over.Tie as tie
 use Rattle.schedule.proofs.lent.hand_over.Reads as reads

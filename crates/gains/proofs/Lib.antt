@@ -1,0 +1,5 @@
+-- The entries:
+pub mod Entries
+-- What each public contract leaves open: nothing.
+pub mod Unique
+pub mod Outcomes

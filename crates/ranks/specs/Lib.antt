@@ -1,0 +1,2 @@
+-- The ranking as a table.
+pub mod Listed
