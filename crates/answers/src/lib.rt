@@ -3,3 +3,4 @@
 pub mod run;
 pub mod sheet;
 pub mod text;
+mod times;

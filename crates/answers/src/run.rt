@@ -1,13 +1,15 @@
 // `plan run FILE [TIMES]`: the finish, and each stage's finish instant.
+use crate::times;
+use board::Names;
+use graph::Graph;
 use graph::Refusal;
-use say::names::Names;
 use schedule::Played;
 
 // The argument that names the times.
-pub const TIMES: usize = 3;
+const TIMES: usize = 3;
 
 // So many times, and where in their text each one starts and ends. A graph has 128 stages at most: of more times only that there are more matters.
-pub struct Times {
+pub(crate) struct Times {
     pub n: usize,
     pub ticks: [u32; 129],
     pub start: [usize; 129],
@@ -17,10 +19,10 @@ pub struct Times {
 // What the text of times has wrong where they are refused.
 fn reason(said: &[u8], times: Times, stages: usize, r: Refusal) -> bool {
     if r.number != 14 {
-        return say::fault::counted(TIMES, times.n, stages);
+        return reasons::fault::counted(TIMES, times.n, stages);
     }
     let v = (r.place % 128) as usize;
-    say::fault::said(TIMES, said, say::fault::TIME, times.start[v], times.end[v])
+    reasons::fault::said(TIMES, said, faults::TIME, times.start[v], times.end[v])
 }
 
 fn front(list: &[u32], n: usize) -> &[u32] {
@@ -28,7 +30,7 @@ fn front(list: &[u32], n: usize) -> &[u32] {
 }
 
 // The run of a file of so many stages, with times that the text `said` gave.
-pub fn answer(t: &[u8], names: Names, stages: usize, file: &[u8], said: &[u8], times: Times) -> u8 {
+fn answer(t: &[u8], names: Names, stages: usize, file: &[u8], said: &[u8], times: Times) -> u8 {
     let ticks = times.ticks;
     let mut list = [0u32; 128];
     let played = schedule::run(file, front(&ticks, times.n), &mut list);
@@ -42,4 +44,30 @@ pub fn answer(t: &[u8], names: Names, stages: usize, file: &[u8], said: &[u8], t
             input::status(first & reason(said, times, stages, r), input::NO)
         }
     }
+}
+
+// The run at the times of a text.
+fn with_text(t: &[u8], names: Names, g: Graph, file: &[u8], said: &[u8]) -> u8 {
+    let timed = times::of(said, t, names, g);
+    let f = timed.fault;
+    if f.row != faults::FINE {
+        return input::status(reasons::fault::of_text(TIMES, said, f), input::NO);
+    }
+    let times = timed.times;
+    answer(t, names, g.n, file, said, times)
+}
+
+// The run at the times that argument 3 names.
+pub fn timed(t: &[u8], names: Names, g: Graph, file: &[u8]) -> u8 {
+    let mut space = [0u8; 65537];
+    let got = input::read(TIMES, &mut space);
+    if !got.good {
+        return input::TROUBLE;
+    }
+    with_text(t, names, g, file, texts::part(&space, 0, got.n))
+}
+
+// The run at every stage's WCET.
+pub fn full(t: &[u8], names: Names, g: Graph, file: &[u8]) -> u8 {
+    answer(t, names, g.n, file, t, times::full(g))
 }

@@ -1,8 +1,8 @@
 // `plan [sheet] FILE`: the sheet; for a board text also the path by its names.
 ghost use Rattle.graph.specs.Model.{AcceptedGraph};
+use board::Names;
 use bounds::Pathed;
 use graph::Graph;
-use say::names::Names;
 
 // How many vertices the path has, which stand in the room.
 fn found(g: Graph, room: &mut [u8]) -> usize

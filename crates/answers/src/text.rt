@@ -1,9 +1,9 @@
 // `plan text FILE`: the board text of a graph file. `plan graph TEXT`: the graph file of a board text.
+use board::Names;
 use graph::Graph;
-use say::names::Names;
 
 pub fn answer(t: &[u8], names: Names, g: Graph) -> u8 {
-    input::status(say::board::lines(t, names, g), input::ANSWER)
+    input::status(say::text::lines(t, names, g), input::ANSWER)
 }
 
 pub fn file(file: &[u8]) -> u8 {

@@ -1,5 +1,7 @@
-// What the arguments of the command name, read whole, and trouble with it. What is read, and whether it can be, is the system's to say: no
-// contract can.
+// What the arguments of the command name, read whole, and the graph file of it; trouble with it, and what a board text gets wrong, is said. What is
+// read, whether it can be, and whether what is said is taken, is the system's to say: no contract can.
+pub mod given;
+mod net;
 
 // The exit status: an answer, a no of the planner, trouble.
 pub const ANSWER: u8 = 0;

@@ -1,11 +1,8 @@
 // The words of the command: a row for each in `number` and in `answered`, and a line in `say::help`.
 ghost use Rattle.graph.specs.Model.{AcceptedGraph};
-use crate::cut;
-use crate::given;
-use crate::run;
+use board::Names;
 use graph::Answer;
 use graph::Graph;
-use say::names::Names;
 
 const SHEET: u8 = 0;
 
@@ -27,10 +24,10 @@ const UNKNOWN: u8 = 8;
 
 // Which word stands first, where there are as many arguments as it takes, the command's own name among them.
 fn number(word: &[u8], n: usize) -> u8 {
-    if cut::equal(word, b"sheet") {
+    if texts::equal(word, b"sheet") {
         return if n == 3 { SHEET } else { UNKNOWN };
     }
-    if cut::equal(word, b"run") {
+    if texts::equal(word, b"run") {
         return if n == 3 {
             RUN
         } else if n == 4 {
@@ -39,10 +36,10 @@ fn number(word: &[u8], n: usize) -> u8 {
             UNKNOWN
         };
     }
-    if cut::equal(word, b"graph") {
+    if texts::equal(word, b"graph") {
         return if n == 3 { GRAPH } else { UNKNOWN };
     }
-    if cut::equal(word, b"text") {
+    if texts::equal(word, b"text") {
         return if n == 3 { TEXT } else { UNKNOWN };
     }
     if n != 2 {
@@ -53,14 +50,16 @@ fn number(word: &[u8], n: usize) -> u8 {
 
 // The same for words that stand alone. Any other is a file, but for what looks like an option.
 fn alone(word: &[u8]) -> u8 {
-    if cut::equal(word, b"help") | cut::equal(word, b"--help") | cut::equal(word, b"-h") {
+    if texts::equal(word, b"help") | texts::equal(word, b"--help") | texts::equal(word, b"-h") {
         return HELP;
     }
-    if cut::equal(word, b"version") | cut::equal(word, b"--version") {
+    if texts::equal(word, b"version") | texts::equal(word, b"--version") {
         return VERSION;
     }
-    if (cut::byte(word, 0) == b'-') & (word.len() > 1) {
-        return UNKNOWN;
+    if word.len() > 1 {
+        if word[0] == b'-' {
+            return UNKNOWN;
+        }
     }
     FILE
 }
@@ -70,8 +69,8 @@ fn answered(word: u8, t: &[u8], names: Names, g: Graph, file: &[u8]) -> u8
     requires { ⌜ AcceptedGraph g ⌝ }
 {
     match word {
-        1 => run::full(t, names, g, file),
-        2 => run::timed(t, names, g, file),
+        1 => answers::run::full(t, names, g, file),
+        2 => answers::run::timed(t, names, g, file),
         3 => answers::text::file(file),
         4 => answers::text::answer(t, names, g),
         _ => answers::sheet::answer(t, names, g),
@@ -94,12 +93,12 @@ fn taken(word: u8, t: &[u8], names: Names, file: &[u8]) -> u8 {
 // What is said of the bytes that argument k names.
 fn judged(word: u8, k: usize, t: &[u8]) -> u8 {
     let mut room = [0u8; 9304];
-    let made = given::file(k, t, &mut room);
+    let made = input::given::file(k, t, &mut room);
     if made.status != input::ANSWER {
         return made.status;
     }
     let names = made.names;
-    taken(word, t, names, cut::part(&room, 0, made.n))
+    taken(word, t, names, texts::part(&room, 0, made.n))
 }
 
 // What is said of what argument k names.
@@ -109,7 +108,7 @@ fn read(word: u8, k: usize) -> u8 {
     if !got.good {
         return input::TROUBLE;
     }
-    judged(word, k, cut::part(&space, 0, got.n))
+    judged(word, k, texts::part(&space, 0, got.n))
 }
 
 fn row(word: u8) -> u8 {

@@ -1,8 +1,9 @@
-// Which line of a board text a refusal is about, and how it is said. Whether it could be written no contract can say.
+// What a text gets wrong and which line of a board text a refusal is about, and how it is said. Whether it could be written no contract can say.
+pub mod fault;
+
 ghost use Prim.Native.Nat.{_≤_, _<_};
+use board::Names;
 use graph::Refusal;
-use say::fault;
-use say::names::Names;
 
 fn least(a: usize, b: usize) -> usize
     ensures { λ r. ⌜ (r ≤ a) × (r ≤ b) ⌝ }
@@ -95,10 +96,10 @@ fn second(marks: [u8; 128], n: usize) -> usize {
 fn apart(k: usize, t: &[u8], names: Names, edge: &[u16; 1024], n: usize) -> bool {
     let first = second(ends(edge, n, true), names.stages);
     if first < names.stages {
-        return fault::said_stage(k, t, names, fault::SECOND_START, first);
+        return fault::said_stage(k, t, names, faults::SECOND_START, first);
     }
     let last = second(ends(edge, n, false), names.stages);
-    fault::said_stage(k, t, names, fault::SECOND_END, last)
+    fault::said_stage(k, t, names, faults::SECOND_END, last)
 }
 
 // How far a place is past a count; 0 where it is not.
@@ -118,18 +119,18 @@ pub fn said(k: usize, t: &[u8], names: Names, edge: &[u16; 1024], n: usize, r: R
     let record = r.place as usize;
     let stage = past(record, names.kinds);
     match number {
-        4 => fault::said(k, t, fault::KINDS_NONE, t.len(), t.len()),
-        5 => fault::said_kind(k, t, names, fault::CORES, record),
-        6 => fault::said(k, t, fault::STAGES_NONE, t.len(), t.len()),
-        7 => fault::said_stage(k, t, names, fault::WCET, stage),
+        4 => fault::said(k, t, faults::KINDS_NONE, t.len(), t.len()),
+        5 => fault::said_kind(k, t, names, faults::CORES, record),
+        6 => fault::said(k, t, faults::STAGES_NONE, t.len(), t.len()),
+        7 => fault::said_stage(k, t, names, faults::WCET, stage),
         9 => fault::said_stage(
             k,
             t,
             names,
-            fault::ITSELF,
+            faults::ITSELF,
             waiting(edge, past(stage, names.stages)),
         ),
-        11 => fault::said_stage(k, t, names, fault::CYCLE, on_cycle(edge, n)),
+        11 => fault::said_stage(k, t, names, faults::CYCLE, on_cycle(edge, n)),
         _ => apart(k, t, names, edge, n),
     }
 }

@@ -1,7 +1,7 @@
 // The finish of a run, and each stage's finish instant.
 use crate::names;
-use crate::names::Names;
 use crate::out;
+use board::Names;
 
 fn wide(x: u32) -> u64 {
     x as u64

@@ -1,7 +1,7 @@
 // The sheet, and the path by names.
 use crate::names;
-use crate::names::Names;
 use crate::out;
+use board::Names;
 use bounds::Bounded;
 use graph::Graph;
 
@@ -75,7 +75,7 @@ fn padded(name: &[u8], width: usize) -> bool {
         0
     };
     let end = if left < 64 { left + 2 } else { 2 };
-    out::text(name) & out::text(names::part(blanks, 0, end))
+    out::text(name) & out::text(texts::part(blanks, 0, end))
 }
 
 fn wcet_of(g: Graph, v: usize) -> u64 {
