@@ -6,6 +6,7 @@
 --   Faultless s c        the same, and c holds how many records there are of each kind
 --   lowestIn s           the lowest number from 2 to 10 that applies, with its place; or 11
 --   Found s r            r has that, and where it is 11 the counts
+--   Listed s e st        e are the edges of the file's graph, and st their starts
 --   Numbered s r e st o  r is the number 11 or 12 that applies, or 13; the edges are listed, with their starts, and with 13 the order
 --   Edged s h e st o     what is known of an accepted file: the counts, the edges, their starts, and an order along them
 use mathlib.Core.Path.{_≡_}
