@@ -55,5 +55,7 @@ struct plain_count plain_path(const uint8_t *file, size_t length, uint8_t *out, 
 struct plain_step plain_start(const uint8_t *file, size_t length, const uint32_t *times, size_t count);
 struct plain_step plain_tick(struct plain_record run, const uint8_t *file, size_t length);
 struct plain_finish plain_run(const uint8_t *file, size_t length, const uint32_t *times, size_t count, uint32_t *finishes, size_t room);
+struct plain_count plain_gains(const uint8_t *file, size_t length, uint64_t *gains, size_t room);
+struct plain_count plain_gains_altered(const uint8_t *file, size_t length, uint32_t vertex, uint32_t wcet, uint64_t *gains, size_t room);
 
 #endif

@@ -54,6 +54,8 @@
 #define PLANNER_STACK_TICK 16384
 #define PLANNER_STACK_TICK_IN_PLACE 16384
 #define PLANNER_STACK_RUN 12288
+#define PLANNER_STACK_GAINS 12288
+#define PLANNER_STACK_GAINS_ALTERED 16384
 
 #ifdef __cplusplus
 #define PLANNER_SIZE(type, size) static_assert(sizeof(type) == (size), "the library lays " #type " out otherwise")
@@ -170,6 +172,17 @@ PlannerMoved planner_tick_in_place(PlannerRecord *run, const uint8_t *file, size
    vertices). */
 PlannerFinish planner_run(const uint8_t *file, size_t file_length, const uint32_t *times, size_t times_length, uint32_t *finishes,
                           size_t finishes_length);
+
+/* What a rewrite would gain: for each vertex NEW-B-1 less NEW-B-1 of the same graph with that vertex's WCET set to 0, in parts, into `gains`,
+   and how many vertices there are. No gain is more than the vertex's WCET in parts. Refuses with 1 to 12, then 15 (`gains` has fewer places
+   than the graph has vertices). */
+PlannerCount planner_gains(const uint8_t *file, size_t file_length, uint64_t *gains, size_t gains_length);
+
+/* The gains of the graph in which one vertex has another WCET: both bounds are taken there, and the file stays as it is. Refuses with 1 to 12,
+   then 7 at 0 (the graph doesn't have that vertex, whatever the WCET), then 7 at the vertex's record (the WCET is above the limit), then
+   15. */
+PlannerCount planner_gains_altered(const uint8_t *file, size_t file_length, uint32_t vertex, uint32_t wcet, uint64_t *gains,
+                                   size_t gains_length);
 
 #ifdef __cplusplus
 }

@@ -1,4 +1,5 @@
-/* Case A of document 01: written by the writer, played tick by tick where the record stands, by value, and whole. */
+/* Case A of document 01: written by the writer, played tick by tick where the record stands, by value, and whole; then which vertices are
+   worth a rewrite. */
 #include "planner.h"
 
 /* Declared here, not included: an Arm machine has no headers for x86-64. */
@@ -30,6 +31,22 @@ static void note_finished(const PlannerRecord *run, uint32_t *finishes)
             finishes[v] = (uint32_t)run->instant;
 }
 
+/* The three vertices with the largest gains, the lower number first among equals. */
+static void print_best(const char *what, const uint64_t *gains)
+{
+    int named[VERTICES] = {0};
+    printf("%s", what);
+    for (int i = 0; i < 3; i++) {
+        int best = -1;
+        for (int v = 0; v < VERTICES; v++)
+            if (!named[v] && (best < 0 || gains[best] < gains[v]))
+                best = v;
+        named[best] = 1;
+        printf("%s %d by %llu", i == 0 ? "" : ",", best, (unsigned long long)gains[best]);
+    }
+    printf("\n");
+}
+
 int main(void)
 {
     PlannerCount written = planner_write(cores, sizeof cores, kinds, VERTICES, wcets, VERTICES, edges, sizeof edges / sizeof edges[0], file, sizeof file);
@@ -59,6 +76,13 @@ int main(void)
     PlannerFinish whole = planner_run(file, length, wcets, VERTICES, finishes, VERTICES);
     print_instants("finishes whole", finishes);
     printf("finish %llu\n", (unsigned long long)whole.finish);
+
+    /* What a rewrite would gain, in parts of a tick; and what would be worth it next, once vertex 1 takes 3 ticks. */
+    uint64_t gains[VERTICES];
+    planner_gains(file, length, gains, VERTICES);
+    print_best("rewrite", gains);
+    planner_gains_altered(file, length, 1, 3, gains, VERTICES);
+    print_best("rewrite next", gains);
 
     /* A refusal changes nothing that was lent. */
     const uint32_t above[VERTICES] = {4, 10, 6, 3};

@@ -1,4 +1,5 @@
-//! Prints the sheet of a graph file, given by its path or on standard input, and plays a run of it with every vertex at its WCET.
+//! Prints the sheet of a graph file, given by its path or on standard input, says which vertices are worth a rewrite, and plays a run of it
+//! with every vertex at its WCET.
 
 use std::io::Read;
 use std::process::ExitCode;
@@ -9,6 +10,7 @@ mod planner {
 
     pub const LONGEST_FILE: usize = 9296;
     pub const MOST_VERTICES: usize = 128;
+    pub const PARTS_PER_TICK: u64 = 720_720;
 
     /// include/planner.h says what each field means. The record is the caller's to keep; one that was changed is judged anew at each tick.
     #[repr(C)]
@@ -91,6 +93,15 @@ mod planner {
             finishes: *mut u32,
             finishes_length: usize,
         ) -> Answer<u64>;
+        fn planner_gains(file: *const u8, file_length: usize, gains: *mut u64, gains_length: usize) -> Answer<u64>;
+        fn planner_gains_altered(
+            file: *const u8,
+            file_length: usize,
+            vertex: u32,
+            wcet: u32,
+            gains: *mut u64,
+            gains_length: usize,
+        ) -> Answer<u64>;
     }
 
     // Safety, of each call below: a slice's pointer is not null, is aligned, and is good for its length, and a `&mut` overlaps nothing else.
@@ -127,10 +138,37 @@ mod planner {
         };
         finish.told()
     }
+
+    /// How many vertices there are; what a rewrite of each would gain, in parts of a tick, goes into `gains`.
+    pub fn gains(file: &[u8], gains: &mut [u64]) -> Result<usize, Refusal> {
+        let count = unsafe { planner_gains(file.as_ptr(), file.len(), gains.as_mut_ptr(), gains.len()) }.told()?;
+        Ok(count as usize)
+    }
+
+    /// The same of the graph in which one vertex has another WCET.
+    pub fn gains_altered(file: &[u8], vertex: u32, wcet: u32, gains: &mut [u64]) -> Result<usize, Refusal> {
+        let count =
+            unsafe { planner_gains_altered(file.as_ptr(), file.len(), vertex, wcet, gains.as_mut_ptr(), gains.len()) };
+        Ok(count.told()? as usize)
+    }
 }
 
 fn words<T: ToString>(values: &[T]) -> String {
     values.iter().map(T::to_string).collect::<Vec<_>>().join(" ")
+}
+
+/// The vertices with the largest gain first. The sort leaves equals where they stand: the lower number first.
+fn ranked(gains: &[u64]) -> Vec<usize> {
+    let mut vertices: Vec<usize> = (0..gains.len()).collect();
+    vertices.sort_by_key(|&v| std::cmp::Reverse(gains[v]));
+    vertices
+}
+
+/// By how much the bound would fall if a vertex took no time, for the three that come first, in whole ticks.
+fn print_best(what: &str, gains: &[u64]) {
+    let best = ranked(gains).into_iter().take(3);
+    let told = best.map(|v| format!("{v} by {}", gains[v] / planner::PARTS_PER_TICK));
+    println!("{what} {}", told.collect::<Vec<_>>().join(", "));
 }
 
 fn sheet(file: &[u8]) -> Result<(), planner::Refusal> {
@@ -143,6 +181,15 @@ fn sheet(file: &[u8]) -> Result<(), planner::Refusal> {
     println!("new {}", bounds.new_b_1);
     println!("ticks {}", bounds.ticks);
     println!("path {}", words(&path[..count]));
+    let mut gains = vec![0; graph.n];
+    planner::gains(file, &mut gains)?;
+    println!("gains {}", words(&ranked(&gains)));
+
+    // what is worth a rewrite, and what would be worth it next, once the first of them takes half as long
+    print_best("rewrite", &gains);
+    let first = ranked(&gains)[0];
+    planner::gains_altered(file, first as u32, graph.wcet[first] / 2, &mut gains)?;
+    print_best("rewrite next", &gains);
 
     let times = &graph.wcet[..graph.n];
     let mut run = planner::start(file, times)?;

@@ -58,6 +58,12 @@ static void words(const uint32_t *list, size_t count)
         field(list[i]);
 }
 
+static void long_words(const uint64_t *list, size_t count)
+{
+    for (size_t i = 0; i < count; i++)
+        field(list[i]);
+}
+
 static void record(const PlannerRecord *run)
 {
     text(" :");
@@ -159,6 +165,15 @@ static struct list take_room(size_t element)
     if (length > 0)
         memset(room.at, PRESET, (size_t)length * element);
     return room;
+}
+
+/* A number that the entry takes in 32 bits. */
+static uint32_t take_word(void)
+{
+    uint64_t number = take(8);
+    if (number > UINT32_MAX)
+        payload_good = 0;
+    return (uint32_t)number;
 }
 
 /* A run record travels as it lies in memory, and is lent as it came. */
@@ -287,6 +302,31 @@ static void letter_x(void)
     words(finishes.at, finishes.length);
 }
 
+static void tell_gains(PlannerCount a, struct list gains)
+{
+    counted(a.number, a.place, "gains", a.count);
+    text(" :");
+    long_words(gains.at, gains.length);
+}
+
+static void letter_g(void)
+{
+    struct list file = take_list(1), gains = take_room(8);
+    if (!all_taken())
+        return;
+    tell_gains(planner_gains(file.at, file.length, gains.at, gains.length), gains);
+}
+
+static void letter_a(void)
+{
+    struct list file = take_list(1);
+    uint32_t vertex = take_word(), wcet = take_word();
+    struct list gains = take_room(8);
+    if (!all_taken())
+        return;
+    tell_gains(planner_gains_altered(file.at, file.length, vertex, wcet, gains.at, gains.length), gains);
+}
+
 static struct letter {
     char letter;
     void (*answer)(void);
@@ -302,6 +342,8 @@ static struct letter {
     {'T', letter_t, "planner_tick", PLANNER_STACK_TICK, 0},
     {'I', letter_i, "planner_tick_in_place", PLANNER_STACK_TICK_IN_PLACE, 0},
     {'X', letter_x, "planner_run", PLANNER_STACK_RUN, 0},
+    {'G', letter_g, "planner_gains", PLANNER_STACK_GAINS, 0},
+    {'A', letter_a, "planner_gains_altered", PLANNER_STACK_GAINS_ALTERED, 0},
 };
 enum { LETTERS = sizeof letters / sizeof letters[0] };
 

@@ -4,7 +4,8 @@ use super::graphs::{chain, exactly};
 use super::lists::{edge, file_of as file_of_records, lists_of, records_of};
 use super::random::Random;
 use super::request::{self, Request, LARGEST_ROOM, LONGEST_PAYLOAD};
-use crate::reference::graph::{Graph, LONGEST_FILE, MOST_WCET};
+use crate::reference::graph::{Graph, LONGEST_FILE, MOST_VERTICES, MOST_WCET};
+use crate::reference::reader::read;
 use crate::reference::record::{RunRecord, LATEST};
 use crate::reference::schedule::{record_at, spans};
 use crate::reference::writer::{file_of, Lists};
@@ -18,6 +19,8 @@ pub fn catalogue() -> Vec<Request> {
     requests.extend(wide_requests());
     requests.extend(ticks_of_small_runs());
     requests.extend(instants_at_the_limit());
+    requests.extend(gains_at_the_limits());
+    requests.extend(alterations_of_refused_files());
     requests
 }
 
@@ -45,6 +48,26 @@ pub fn case_f() -> Lists {
     Lists { cores: vec![1], kinds: vec![0], wcets: vec![0], edges: vec![] }
 }
 
+/// The graphs of docs/orders/01.md. Two longest paths, on a type of two cores.
+pub fn two_longest_paths() -> Lists {
+    Lists {
+        cores: vec![2],
+        kinds: vec![0; 4],
+        wcets: vec![2, 3, 3, 4],
+        edges: [(0, 1), (0, 2), (1, 3), (2, 3)].map(|(u, v)| edge(u, v)).to_vec(),
+    }
+}
+
+/// The first of two types has one core.
+pub fn type_of_one_core() -> Lists {
+    Lists { cores: vec![1, 4], kinds: vec![1, 0, 1, 0], wcets: vec![4, 5, 4, 2], ..two_longest_paths() }
+}
+
+/// A chain whose middle vertex takes no time.
+pub fn middle_of_no_time() -> Lists {
+    Lists { cores: vec![2], kinds: vec![0; 3], wcets: vec![3, 0, 2], edges: vec![edge(0, 1), edge(1, 2)] }
+}
+
 fn worked_cases() -> Vec<Vec<u8>> {
     let altered = |change: &dyn Fn(&mut Lists)| {
         let mut lists = case_a();
@@ -60,6 +83,9 @@ fn worked_cases() -> Vec<Vec<u8>> {
         altered(&|a| a.edges.push(edge(3, 0))),
         altered(&|a| a.edges.retain(|&e| e != edge(0, 2))),
         altered(&|a| a.edges.insert(0, edge(0, 1))),
+        two_longest_paths(),
+        type_of_one_core(),
+        middle_of_no_time(),
     ];
     cases.iter().map(|lists| file_of_records(&records_of(lists))).collect()
 }
@@ -143,6 +169,10 @@ fn questions_of(file: &[u8]) -> Vec<Request> {
         request::tick(file, &record),
         request::tick_in_place(file, &record),
         request::run(file, &times, n + 2),
+        request::gains(file, n),
+        request::gains(file, n.saturating_sub(1)),
+        request::gains_altered(file, 0, 0, n),
+        request::gains_altered(file, n as u64, MOST_WCET as u64 + 1, 0),
     ]
 }
 
@@ -153,6 +183,7 @@ fn questions_of_graph(graph: &Graph) -> Vec<Request> {
     let mut requests = questions_of(&file);
     requests.extend([-1, 0, 1].map(|more: isize| request::write(&lists, file.len().saturating_add_signed(more))));
     requests.extend([-1, 0, 1].map(|more: isize| request::run(&file, &graph.wcets, n.saturating_add_signed(more))));
+    requests.extend((0..n).step_by(n / 8 + 1).map(|v| request::gains_altered(&file, v as u64, MOST_WCET as u64, n)));
     requests.push(request::start(&file, &graph.wcets));
     requests.push(request::tick(&file, &middle));
     requests.push(request::tick_in_place(&file, &middle));
@@ -175,6 +206,16 @@ fn wide_requests() -> Vec<Request> {
         requests.push(request::write(&case_a(), room));
         requests.push(request::path(&file, room));
         requests.push(request::run(&file, &[4, 9, 6, 3], room));
+        requests.push(request::gains(&file, room));
+        requests.push(request::gains_altered(&file, 1, 3, room));
+    }
+    // in 32 bits and above them, of a good file and of none
+    for number in [u32::MAX as u64, 1 << 32, (1 << 32) + 1, u64::MAX] {
+        for file in [&file[..], &[]] {
+            requests.push(request::gains_altered(file, number, 3, 4));
+            requests.push(request::gains_altered(file, 1, number, 4));
+            requests.push(request::gains_altered(file, number, number, 4));
+        }
     }
     for longer in [0, 1] {
         requests.push(request::read(&vec![0x56; LONGEST_PAYLOAD - 4 + longer]));
@@ -225,4 +266,39 @@ fn instants_at_the_limit() -> Vec<Request> {
         requests.push(request::tick_in_place(&file, &record));
     }
     requests
+}
+
+/// Every vertex, WCET and room at which the answer to an alteration may change, each with each.
+fn gains_at_the_limits() -> Vec<Request> {
+    let largest = exactly(&mut Random::new(0, 4), 10, 128, 1_024);
+    let mut requests = Vec::new();
+    for graph in [graph_of(&case_a()), largest] {
+        let (file, n) = (file_of(&graph), graph.vertices());
+        let rooms = [0, n - 1, n, n + 1, MOST_VERTICES];
+        requests.extend(rooms.map(|room| request::gains(&file, room)));
+        for vertex in [0, n as u64 - 1, n as u64, 127, 128, 255, 256, u32::MAX as u64] {
+            let old = graph.wcets.get(vertex as usize).copied().unwrap_or(1);
+            for wcet in [0, old, MOST_WCET, MOST_WCET + 1, u32::MAX] {
+                requests.extend(rooms.map(|room| request::gains_altered(&file, vertex, wcet as u64, room)));
+            }
+        }
+    }
+    requests
+}
+
+/// A WCET above the limit in the file, with the same vertex, another or none altered to a good one: the file is refused
+/// as it stands.
+fn alterations_of_refused_files() -> Vec<Request> {
+    let mut lists = case_a();
+    lists.wcets[2] = MOST_WCET + 1;
+    let file = file_of_records(&records_of(&lists));
+    let mut requests = Vec::new();
+    for vertex in [1, 2, 3, 4] {
+        requests.extend([3, MOST_WCET + 1].map(|wcet| request::gains_altered(&file, vertex, wcet as u64, 4)));
+    }
+    requests
+}
+
+fn graph_of(lists: &Lists) -> Graph {
+    read(&file_of_records(&records_of(lists))).expect("lists of an accepted graph")
 }

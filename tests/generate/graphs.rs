@@ -7,6 +7,9 @@ use std::collections::BTreeSet;
 
 /// Mostly small, as small graphs have the ties and the tight corners, but of every size.
 pub fn any(random: &mut Random) -> Graph {
+    if random.one_in(10) {
+        return twins(random);
+    }
     let n = match random.below(20) {
         0 => MOST_VERTICES,
         1 => random.between(60, MOST_VERTICES),
@@ -64,6 +67,47 @@ pub fn chain(n: usize, cores: u8, wcet: u32) -> Graph {
     }
 }
 
+/// With several longest paths: joints one behind the other, and from each to the next some branches that have the same
+/// vertices in another order. Now and then a branch is shorter than its twins by a tick, or an edge leads past a joint.
+pub fn twins(random: &mut Random) -> Graph {
+    let kinds = random.between(1, 4);
+    let most = random.pick(&[1, 4, 1_000, MOST_WCET]);
+    let any_vertex = |random: &mut Random| (random.below(kinds) as u8, random.between(0, most as usize) as u32);
+    let mut vertices = vec![any_vertex(random)];
+    let mut layout = BTreeSet::new();
+    for _ in 0..random.between(1, 4) {
+        let joint = vertices.len() - 1;
+        let mut branch: Vec<(u8, u32)> = (0..random.between(1, 4)).map(|_| any_vertex(random)).collect();
+        let mut ends = Vec::new();
+        for _ in 0..random.between(2, 4) {
+            random.shuffle(&mut branch);
+            let first = vertices.len();
+            let last = first + branch.len() - 1;
+            vertices.extend(&branch);
+            layout.insert((joint, first));
+            layout.extend((first..last).map(|p| (p, p + 1)));
+            ends.push(last);
+            if random.one_in(6) {
+                vertices[last].1 = vertices[last].1.saturating_sub(1);
+            }
+        }
+        layout.extend(ends.iter().map(|&end| (end, vertices.len())));
+        vertices.push(any_vertex(random));
+    }
+    if random.one_in(3) {
+        layout.extend(upward(random, vertices.len()));
+    }
+    let number = numbers(random, vertices.len());
+    let mut of_number = vec![(0, 0); vertices.len()];
+    vertices.iter().zip(&number).for_each(|(&vertex, &v)| of_number[v as usize] = vertex);
+    Graph {
+        cores: cores(random, kinds),
+        kinds: of_number.iter().map(|&(kind, _)| kind).collect(),
+        wcets: of_number.iter().map(|&(_, wcet)| wcet).collect(),
+        edges: edges_between(&number, &layout),
+    }
+}
+
 /// Edges between positions: one into each but the first, one out of each but the last, and up to `extra` more.
 fn layout(random: &mut Random, n: usize, most: usize, extra: usize) -> BTreeSet<(usize, usize)> {
     let mut edges = BTreeSet::new();
@@ -93,14 +137,23 @@ fn upward(random: &mut Random, n: usize) -> Option<(usize, usize)> {
     (p != q).then_some((p.min(q), p.max(q)))
 }
 
-/// The positions' edges as edges between vertices: numbered upwards, downwards, or anyhow.
 fn numbered(random: &mut Random, n: usize, layout: &BTreeSet<(usize, usize)>) -> Vec<(u8, u8)> {
+    edges_between(&numbers(random, n), layout)
+}
+
+/// The vertex number of each position: upwards, downwards, or anyhow.
+fn numbers(random: &mut Random, n: usize) -> Vec<u8> {
     let mut number: Vec<u8> = (0..n as u8).collect();
     match random.below(4) {
         0 => {}
         1 => number.reverse(),
         _ => random.shuffle(&mut number),
     }
+    number
+}
+
+/// The positions' edges as edges between vertices.
+fn edges_between(number: &[u8], layout: &BTreeSet<(usize, usize)>) -> Vec<(u8, u8)> {
     let mut edges: Vec<(u8, u8)> = layout.iter().map(|&(p, q)| (number[p], number[q])).collect();
     edges.sort_unstable();
     edges

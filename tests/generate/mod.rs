@@ -6,11 +6,13 @@
 //!   faults     a fault planted for each number that says no
 //!   damage     blind damage to a file
 //!   runs       execution times and run records, fitting and not
+//!   altered    a vertex and a new WCET for it, fitting and not
 //!   request    how a request travels
 //!   catalogue  the worked cases and every limit, the same for each seed
 //!   malformed  requests that are none
 //!   stream     the request of each place for a seed
 
+pub mod altered;
 pub mod catalogue;
 pub mod damage;
 pub mod faults;

@@ -29,6 +29,12 @@ impl Request {
         self
     }
 
+    /// The list that the payload begins with, where it does: the file, in every request that has one.
+    pub fn first_list(&self) -> Option<&[u8]> {
+        let length = u32::from_le_bytes(self.payload.get(..4)?.try_into().ok()?) as usize;
+        self.payload[4..].get(..length)
+    }
+
     pub fn bytes(&self) -> Vec<u8> {
         let length = (self.payload.len() as u32).to_le_bytes();
         [&[self.letter], &length[..], &self.payload].concat()
@@ -66,6 +72,15 @@ pub fn tick_in_place(file: &[u8], record: &RunRecord) -> Request {
 
 pub fn run(file: &[u8], times: &[u32], room: usize) -> Request {
     Request::of(b'X').list(file).list(&words(times)).number(room as u64)
+}
+
+pub fn gains(file: &[u8], room: usize) -> Request {
+    Request::of(b'G').list(file).number(room as u64)
+}
+
+/// Vertex and WCET are of 32 bits where the request is one; as numbers they may have more.
+pub fn gains_altered(file: &[u8], vertex: u64, wcet: u64, room: usize) -> Request {
+    Request::of(b'A').list(file).number(vertex).number(wcet).number(room as u64)
 }
 
 fn words(list: &[u32]) -> Vec<u8> {

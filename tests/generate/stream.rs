@@ -1,16 +1,17 @@
 //! The request of each place: first the catalogue, then random ones, each from the seed and its place alone. So nothing
 //! needs to be kept, and one request can be made again by itself.
 
+use super::altered;
 use super::catalogue::catalogue;
 use super::damage::damage;
 use super::faults::{file_with, plant};
 use super::graphs;
-use super::lists::lists_of;
+use super::lists::{file_of as file_of_records, lists_of, records_of};
 use super::malformed::spoilt;
 use super::random::Random;
 use super::request::{self, Request, LARGEST_ROOM};
 use super::runs::{any_times, damaged, reached, unreached};
-use crate::reference::graph::{Graph, RECORD};
+use crate::reference::graph::{Graph, MOST_WCET, RECORD};
 use crate::reference::writer::{file_of, Lists};
 
 pub struct Stream {
@@ -32,14 +33,16 @@ impl Stream {
 }
 
 fn any_request(random: &mut Random) -> Request {
-    let request = match random.below(16) {
+    let request = match random.below(24) {
         0..=3 => request::read(&any_file(random, 3).1),
         4..=5 => any_write(random),
         6..=7 => request::bounds(&any_file(random, 8).1),
         8..=9 => any_path(random),
         10 => any_start(random),
         11..=13 => any_tick(random),
-        _ => any_run(random),
+        14..=15 => any_run(random),
+        16..=19 => any_gains(random),
+        _ => any_gains_altered(random),
     };
     if random.one_in(20) {
         spoilt(random, request)
@@ -150,4 +153,41 @@ fn any_tick(random: &mut Random) -> Request {
 fn any_run(random: &mut Random) -> Request {
     let (graph, file) = any_file(random, 8);
     request::run(&file, &any_times(random, &graph), any_room(random, graph.vertices()))
+}
+
+/// One time in four a graph that is made to have several longest paths.
+fn file_for_gains(random: &mut Random) -> (Graph, Vec<u8>) {
+    if !random.one_in(4) {
+        return any_file(random, 8);
+    }
+    let graph = graphs::twins(random);
+    let file = file_of(&graph);
+    (graph, file)
+}
+
+fn any_gains(random: &mut Random) -> Request {
+    let (graph, file) = file_for_gains(random);
+    request::gains(&file, altered::room(random, &graph))
+}
+
+fn any_gains_altered(random: &mut Random) -> Request {
+    let (graph, mut file) = file_for_gains(random);
+    let mut vertex = altered::vertex(random, &graph);
+    let old = graph.wcets.get(vertex as usize).copied();
+    let mut wcet = altered::wcet(random, old.unwrap_or(0));
+    if old.is_some() && random.one_in(30) {
+        file = file_with_large_wcet(&graph, vertex as usize);
+    }
+    if random.one_in(40) {
+        let wide = if random.one_in(2) { &mut vertex } else { &mut wcet };
+        *wide = altered::too_wide(random, *wide);
+    }
+    request::gains_altered(&file, vertex, wcet, altered::room(random, &graph))
+}
+
+/// The graph's file but for one WCET, which is above the limit: to alter it doesn't mend the file.
+fn file_with_large_wcet(graph: &Graph, v: usize) -> Vec<u8> {
+    let mut lists = lists_of(graph);
+    lists.wcets[v] = MOST_WCET + 1;
+    file_of_records(&records_of(&lists))
 }

@@ -2,6 +2,7 @@
 
 use crate::generate::request::{Request, LARGEST_ROOM, LONGEST_PAYLOAD};
 use crate::reference::bounds::{bounds, path};
+use crate::reference::gains::{gains, gains_altered};
 use crate::reference::reader::read;
 use crate::reference::record::RunRecord;
 use crate::reference::refusal::Refusal;
@@ -28,6 +29,8 @@ pub fn answer(request: &Request) -> String {
         b'S' => answer_start(fields),
         b'T' | b'I' => answer_tick(fields),
         b'X' => answer_run(fields),
+        b'G' => answer_gains(fields),
+        b'A' => answer_gains_altered(fields),
         _ => None,
     };
     line.unwrap_or(BAD.to_string())
@@ -83,8 +86,17 @@ impl<'a> Fields<'a> {
         edges.collect()
     }
 
+    fn number(&mut self) -> Option<u64> {
+        Some(u64::from_le_bytes(self.take(8)?.try_into().ok()?))
+    }
+
+    /// A number that an entry takes in 32 bits.
+    fn word(&mut self) -> Option<u32> {
+        u32::try_from(self.number()?).ok()
+    }
+
     fn room(&mut self) -> Option<usize> {
-        let room = u64::from_le_bytes(self.take(8)?.try_into().ok()?);
+        let room = self.number()?;
         (room <= LARGEST_ROOM as u64).then_some(room as usize)
     }
 
@@ -164,6 +176,26 @@ fn answer_run(mut fields: Fields) -> Option<String> {
     let outcome = read(file).and_then(|graph| run(&graph, &times, room));
     let with_finish = outcome.map(|finishes| (finishes.iter().max().copied().unwrap_or(0) as usize, finishes));
     Some(lent("finish", with_finish, room, u32::from_le_bytes([PRESET; 4])))
+}
+
+fn answer_gains(mut fields: Fields) -> Option<String> {
+    let file = fields.list()?;
+    let room = fields.room()?;
+    fields.end()?;
+    Some(told_gains(read(file).and_then(|graph| gains(&graph, room)), room))
+}
+
+fn answer_gains_altered(mut fields: Fields) -> Option<String> {
+    let file = fields.list()?;
+    let vertex = fields.word()?;
+    let wcet = fields.word()?;
+    let room = fields.room()?;
+    fields.end()?;
+    Some(told_gains(read(file).and_then(|graph| gains_altered(&graph, vertex, wcet, room)), room))
+}
+
+fn told_gains(outcome: Result<Vec<u64>, Refusal>, room: usize) -> String {
+    lent("gains", outcome.map(|gains| (gains.len(), gains)), room, u64::from_le_bytes([PRESET; 8]))
 }
 
 /// A word with its number, or a refusal, and all the lent places: the answer's first, the others as they were.

@@ -6,10 +6,12 @@ use crate::crosscheck;
 use crate::generate::request::Request;
 use crate::generate::stream::Stream;
 use crate::options::Options;
+use crate::reference::reader::read;
 use std::collections::BTreeMap;
 
-/// What can be answered to each letter. `-` is any request that isn't one.
-const POSSIBLE: [(char, &str, &[u32]); 9] = [
+/// What can be answered to each letter. `-` is any request that isn't one. A 7 of A is the file's own; the two 7s of what
+/// is altered have words: `vertex` where the graph doesn't have it, `wcet` where the new one is above the limit.
+const POSSIBLE: [(char, &str, &[u32]); 11] = [
     ('R', "graph", &[1, 2, 3, 4, 5, 6, 7, 8, 9, 10, 11, 12]),
     ('W', "wrote", &[4, 5, 6, 7, 8, 9, 10, 11, 12, 13, 15]),
     ('B', "old", &[1, 2, 3, 4, 5, 6, 7, 8, 9, 10, 11, 12]),
@@ -18,6 +20,8 @@ const POSSIBLE: [(char, &str, &[u32]); 9] = [
     ('T', "moved done", &[1, 2, 3, 4, 5, 6, 7, 8, 9, 10, 11, 12, 16]),
     ('I', "moved done", &[1, 2, 3, 4, 5, 6, 7, 8, 9, 10, 11, 12, 16]),
     ('X', "finish", &[1, 2, 3, 4, 5, 6, 7, 8, 9, 10, 11, 12, 13, 14, 15]),
+    ('G', "gains", &[1, 2, 3, 4, 5, 6, 7, 8, 9, 10, 11, 12, 15]),
+    ('A', "gains vertex wcet", &[1, 2, 3, 4, 5, 6, 7, 8, 9, 10, 11, 12, 15]),
     ('-', "bad", &[]),
 ];
 
@@ -42,11 +46,20 @@ pub fn own_requests(options: &Options) -> bool {
 fn cell(request: &Request) -> (char, String) {
     let line = answer(request);
     let words: Vec<&str> = line.split(' ').collect();
-    match words[0] {
-        "bad" => ('-', "bad".to_string()),
-        "refused" => (request.letter as char, words[1].to_string()),
-        word => (request.letter as char, word.to_string()),
-    }
+    let kind = match words[0] {
+        "bad" => return ('-', "bad".to_string()),
+        "refused" if request.letter == b'A' && words[1] == "7" && is_accepted(request.first_list()) => match words[3] {
+            "0" => "vertex",
+            _ => "wcet",
+        },
+        "refused" => words[1],
+        word => word,
+    };
+    (request.letter as char, kind.to_string())
+}
+
+fn is_accepted(file: Option<&[u8]>) -> bool {
+    file.is_some_and(|file| read(file).is_ok())
 }
 
 fn possible() -> Vec<(char, String)> {
@@ -68,12 +81,12 @@ fn missing_and_impossible(table: &BTreeMap<(char, String), u64>) -> Vec<String> 
 
 fn print_table(table: &BTreeMap<(char, String), u64>) {
     let count = |letter: char, kind: &str| table.get(&(letter, kind.to_string())).copied().unwrap_or(0);
-    print!("{:<3}{:>20}", "", "answered");
+    print!("{:<3}{:>32}", "", "answered");
     (1..=16).for_each(|number| print!("{number:>6}"));
     println!();
     for (letter, words, _) in POSSIBLE {
         let answered: Vec<String> = words.split(' ').map(|word| format!("{word} {}", count(letter, word))).collect();
-        print!("{letter:<3}{:>20}", answered.join(", "));
+        print!("{letter:<3}{:>32}", answered.join(", "));
         for number in 1..=16 {
             match count(letter, &number.to_string()) {
                 0 => print!("{:>6}", "."),

@@ -1,16 +1,19 @@
-//! The reference against itself by second ways: all complete paths written out, bounds as fractions, runs tick by tick,
-//! a planted fault for each number and each pair of them, and the values worked on paper.
+//! The reference against itself by second ways: all complete paths written out, bounds as fractions, gains by the paths
+//! without a vertex's time, alterations in the file's own bytes, runs tick by tick, a planted fault for each number and
+//! each pair of them, and the values worked on paper.
 
 use crate::compare::hex;
-use crate::generate::catalogue::{case_a, case_d, case_f};
+use crate::generate::altered;
+use crate::generate::catalogue::{case_a, case_d, case_f, middle_of_no_time, two_longest_paths, type_of_one_core};
 use crate::generate::faults::file_with;
-use crate::generate::graphs::{of, to_be_damaged};
+use crate::generate::graphs::{of, to_be_damaged, twins};
 use crate::generate::lists::{edge, file_of as file_of_records, lists_of, records_of};
 use crate::generate::random::Random;
 use crate::generate::runs::times;
 use crate::options::Options;
 use crate::reference::bounds::{bounds, least_path, Bounds};
-use crate::reference::graph::{Graph, PARTS_IN_A_TICK};
+use crate::reference::gains::{gains, gains_altered, gains_of, ranking, with_wcet};
+use crate::reference::graph::{Graph, MOST_WCET, PARTS_IN_A_TICK, RECORD};
 use crate::reference::reader::read;
 use crate::reference::record::finished;
 use crate::reference::refusal::Refusal;
@@ -30,12 +33,24 @@ const SAMPLES: [(&[u8], &str); 2] = [
 
 pub fn faults(options: &Options) -> Vec<String> {
     let mut faults = worked_on_paper();
+    faults.extend(gains_on_paper());
     for place in 0..2_000 {
         let random = &mut Random::new(options.seed ^ 0x5E1F, place);
         let n = random.between(1, 10);
         let graph = of(random, n, 12);
-        let same = round_trip_agrees(&graph) && paths_agree(&graph) && runs_agree(random, &graph);
+        let same = round_trip_agrees(&graph)
+            && paths_agree(&graph)
+            && gains_agree(&graph)
+            && alteration_agrees(random, &graph)
+            && runs_agree(random, &graph);
         if !same {
+            faults.push(format!("two ways of the reference differ on {graph:?}"));
+        }
+    }
+    for place in 0..300 {
+        let random = &mut Random::new(options.seed ^ 0x7715, place);
+        let graph = twins(random);
+        if !(paths_agree(&graph) && gains_agree(&graph) && alteration_agrees(random, &graph)) {
             faults.push(format!("two ways of the reference differ on {graph:?}"));
         }
     }
@@ -80,6 +95,39 @@ fn paths_agree(graph: &Graph) -> bool {
     let new = most + volumes;
     let whole = new / PARTS_IN_A_TICK as u128;
     bounds(graph) == Bounds { old: old as u64, new: new as u64, ticks: whole as u64 } && least_path(graph) == *least
+}
+
+/// Each gain is what the longest path and the volume lose together: the paths are all there, and v's time is left out of
+/// each. It is no less than v's share of the volume and no more than v's WCET. A vertex's place in the ranking is how
+/// many come before it.
+fn gains_agree(graph: &Graph) -> bool {
+    let paths = complete_paths(graph);
+    let scaled = |v: u8| scaled_sum(graph, &[v]);
+    let without = |p: &[u8], v: u8| p.iter().filter(|&&u| u != v).map(|&u| scaled(u)).sum::<u128>();
+    let most = paths.iter().map(|p| scaled_sum(graph, p)).max().unwrap();
+    let gains = gains_of(graph);
+    let ranking = ranking(&gains);
+    let comes_before = |u: usize, v: usize| gains[u] > gains[v] || gains[u] == gains[v] && u < v;
+    ranking.len() == gains.len()
+        && (0..graph.vertices()).all(|v| {
+            let wcet = graph.wcets[v] as u128;
+            let share = one_part(wcet, graph.cores_of(v) as u128);
+            let left = paths.iter().map(|p| without(p, v as u8)).max().unwrap();
+            let gain = gains[v] as u128;
+            gain == most - left + share
+                && (share..=wcet * PARTS_IN_A_TICK as u128).contains(&gain)
+                && ranking[(0..gains.len()).filter(|&u| comes_before(u, v)).count()] == v
+        })
+}
+
+/// The gains of an alteration are those of the file whose record says the same.
+fn alteration_agrees(random: &mut Random, graph: &Graph) -> bool {
+    let v = random.below(graph.vertices());
+    let wcet = altered::wcet(random, graph.wcets[v]) as u32;
+    let record = graph.cores.len() + v;
+    let mut file = file_of(graph);
+    file[record * RECORD + 4..(record + 1) * RECORD].copy_from_slice(&wcet.to_le_bytes());
+    gains_altered(graph, v as u32, wcet, 128) == read(&file).and_then(|graph| gains(&graph, 128))
 }
 
 /// A number of ticks over a number of cores, multiplied first and divided last; no rest may be left.
@@ -153,7 +201,7 @@ fn worked_on_paper() -> Vec<String> {
     let finishes = |lists: &Lists, times: &[u32]| run(&graph(lists), times, 128);
 
     let a = case_a();
-    expect("A", sheet(&file(&a)) == "graph 2 4 4\nold 14174160\nnew 13693680\nticks 19\npath 0 1 3\n");
+    expect("A", sheet(&file(&a)) == "graph 2 4 4\nold 14174160\nnew 13693680\nticks 19\npath 0 1 3\ngains 1 0 2 3\n");
     expect("A, full times", finishes(&a, &a.wcets) == Ok(vec![4, 13, 10, 16]));
     let b = Lists { cores: vec![4, 3], ..a.clone() };
     expect("B", old_new(&b) == (13_333_320, 12_612_600));
@@ -166,7 +214,8 @@ fn worked_on_paper() -> Vec<String> {
     let f = case_f();
     expect(
         "F",
-        sheet(&file(&f)) == "graph 1 1 0\nold 0\nnew 0\nticks 0\npath 0\n" && finishes(&f, &[0]) == Ok(vec![0]),
+        sheet(&file(&f)) == "graph 1 1 0\nold 0\nnew 0\nticks 0\npath 0\ngains 0\n"
+            && finishes(&f, &[0]) == Ok(vec![0]),
     );
     expect("G", read(&[]) == Err(Refusal { number: 4, place: 0 }));
     expect("H", read(&[0; 7]) == Err(Refusal { number: 1, place: 0 }));
@@ -184,5 +233,39 @@ fn worked_on_paper() -> Vec<String> {
     }
     expect("the sample of case A", SAMPLES[0].0 == file(&a));
     SAMPLES.iter().for_each(|(bytes, text)| expect("a sample's sheet", sheet(bytes) == *text));
+    faults
+}
+
+/// docs/orders/01.md works these gains out. A refused alteration of case A has its number and place.
+fn gains_on_paper() -> Vec<String> {
+    let graph = |lists: Lists| read(&file_of_records(&records_of(&lists))).unwrap();
+    let (a, d, tick) = (graph(case_a()), graph(case_d()), PARTS_IN_A_TICK);
+    let two = graph(two_longest_paths());
+    let one = graph(type_of_one_core());
+    let gains: [(&str, &Graph, &[u64], &[usize]); 7] = [
+        ("A", &a, &[2_882_880, 4_324_320, 2_162_160, 2_162_160], &[1, 0, 2, 3]),
+        ("A, altered", &with_wcet(&a, 1, 3), &[2_882_880, 720_720, 2_882_880, 2_162_160], &[0, 2, 3, 1]),
+        ("two longest paths", &two, &[1_441_440, 1_081_080, 1_081_080, 2_882_880], &[3, 0, 1, 2]),
+        ("a type of one core", &one, &[4 * tick, 5 * tick, 4 * tick, 2 * tick], &[1, 0, 2, 3]),
+        ("a middle of no time", &graph(middle_of_no_time()), &[3 * tick, 0, 2 * tick], &[0, 2, 1]),
+        ("D", &d, &[0, 3, 2, 5, 1, 6, 0].map(|c| c * tick), &[5, 3, 1, 2, 4, 0, 6]),
+        ("F", &graph(case_f()), &[0], &[0]),
+    ];
+    let refusals = [
+        ((4, MOST_WCET + 1, 0), 7, 0),
+        ((4, MOST_WCET, 4), 7, 0),
+        ((u32::MAX, u32::MAX, 128), 7, 0),
+        ((0, MOST_WCET + 1, 0), 7, 2),
+        ((3, u32::MAX, 4), 7, 5),
+        ((3, MOST_WCET, 3), 15, 0),
+    ];
+    let other_gains =
+        gains.iter().filter(|(_, graph, want, first)| gains_of(graph) != *want || ranking(want) != *first);
+    let other_refusals = refusals.iter().filter(|((vertex, wcet, room), number, place)| {
+        gains_altered(&a, *vertex, *wcet, *room) != Err(Refusal { number: *number, place: *place })
+    });
+    let mut faults: Vec<String> = Vec::new();
+    faults.extend(other_gains.map(|(name, ..)| format!("{name} has other gains than on paper")));
+    faults.extend(other_refusals.map(|(altered, ..)| format!("A altered by {altered:?} is not refused as on paper")));
     faults
 }

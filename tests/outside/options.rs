@@ -33,7 +33,7 @@ pub struct Options {
 
 impl Options {
     pub fn from(words: impl Iterator<Item = String>) -> Result<Options, String> {
-        let mut options = Options { mode: Mode::Compare, count: 20_000, seed: 1, command: Vec::new() };
+        let mut options = Options { mode: Mode::Compare, count: 30_000, seed: 1, command: Vec::new() };
         let mut words = words;
         while let Some(word) = words.next() {
             let mut number = || {

@@ -20,7 +20,7 @@ pub fn sheets(options: &Options) -> bool {
     let mut files = long_inputs();
     let mut place = 0;
     while (files.len() as u64) < options.count {
-        files.extend(file_in(&stream.request(place)));
+        files.extend(file_of_bounds(&stream.request(place)));
         place += 1;
     }
     let differences = files.iter().filter(|file| !text_agrees(&options.command, file)).count();
@@ -35,10 +35,10 @@ fn long_inputs() -> Vec<Vec<u8>> {
     vec![padded, vec![0x54; LONGEST_FILE + 1], vec![0; 100_000], vec![0x56; 1_000_000]]
 }
 
-/// The file that a request about one file begins with.
-fn file_in(request: &Request) -> Option<Vec<u8>> {
-    let length = u32::from_le_bytes(request.payload.get(..4)?.try_into().ok()?) as usize;
-    (request.letter == b'R' || request.letter == b'B').then_some(request.payload.get(4..4 + length)?.to_vec())
+/// The file of a request for bounds: there is one for each file of the catalogue, and later ones are good for the most
+/// part, so that most sheets have all their lines.
+fn file_of_bounds(request: &Request) -> Option<Vec<u8>> {
+    request.first_list().filter(|_| request.letter == b'B').map(<[u8]>::to_vec)
 }
 
 fn text_agrees(command: &[String], file: &[u8]) -> bool {

@@ -20,7 +20,7 @@ impl Random {
         self.below(one_in) == 0
     }
 
-    fn one<'a, T>(&mut self, list: &'a [T]) -> &'a T {
+    pub fn one<'a, T>(&mut self, list: &'a [T]) -> &'a T {
         &list[self.below(list.len())]
     }
 }

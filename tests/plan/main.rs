@@ -1,21 +1,30 @@
-//! Board texts through `plan graph`, against what docs/BOARD.md says of them.
+//! Board texts through `plan graph`, against what docs/BOARD.md says of them; and through `plan sheet` and `plan gains` those that are accepted,
+//! against the planner's reference.
 //!
 //!   boards COUNT SEED COMMAND..     the command is the program `plan`, with its loader
+mod gains;
 mod generate;
+#[allow(dead_code)]
+#[path = "../reference/mod.rs"]
+mod planner;
 mod reference;
 
+use gains::{altered, some_stage, some_wcet};
 use generate::{board, damaged, large, Random};
 use reference::{given, Given};
 use std::collections::BTreeMap;
+use std::ffi::OsStr;
 use std::io::{Read, Write};
+use std::os::unix::ffi::OsStrExt;
 use std::process::{exit, Command, Stdio};
 
-/// What the program wrote to standard output, and its status digit, which comes by descriptor 3.
-fn asked(command: &[String], word: &str, input: &[u8]) -> (Vec<u8>, Vec<u8>) {
+/// What the program wrote to standard output, and its status digit, which comes by descriptor 3. It reads standard input, and is given more words.
+fn asked_more(command: &[String], word: &str, more: &[&[u8]], input: &[u8]) -> (Vec<u8>, Vec<u8>) {
     let mut child = Command::new("/bin/sh")
         .args(["-c", "exec \"$@\" 3>&2 2>/dev/null", "sh"])
         .args(command)
         .args([word, "-"])
+        .args(more.iter().map(|w| OsStr::from_bytes(w)))
         .stdin(Stdio::piped())
         .stdout(Stdio::piped())
         .stderr(Stdio::piped())
@@ -30,6 +39,10 @@ fn asked(command: &[String], word: &str, input: &[u8]) -> (Vec<u8>, Vec<u8>) {
     (out, status)
 }
 
+fn asked(command: &[String], word: &str, input: &[u8]) -> (Vec<u8>, Vec<u8>) {
+    asked_more(command, word, &[], input)
+}
+
 fn text_of(r: &mut Random) -> Vec<u8> {
     match r.below(10) {
         0..=3 => board(r),
@@ -42,6 +55,36 @@ fn text_of(r: &mut Random) -> Vec<u8> {
         }
         _ => large(r),
     }
+}
+
+/// An accepted text and its file through `plan sheet` and `plan gains`. The row of what is answered.
+fn planned(r: &mut Random, command: &[String], i: usize, text: &[u8], file: &[u8], names: &[Vec<u8>]) -> &'static str {
+    let sheet = planner::sheet::sheet(file).into_bytes();
+    if r.below(8) == 0 {
+        // a text's sheet goes on with the path by names
+        let (mut out, _) = asked(command, "sheet", text);
+        out.truncate(sheet.len());
+        if out != sheet {
+            differs(i, text, "another sheet", &out, &sheet);
+        }
+    }
+    let graph = planner::reader::read(file).expect("the graph was accepted");
+    let (input, names) = if r.below(3) == 0 { (file, &[][..]) } else { (text, names) };
+    let (answer, words) = if r.below(4) == 0 {
+        (gains::gains(&graph, names), vec![])
+    } else {
+        let (stage, wcet) = (some_stage(r, graph.vertices(), names), some_wcet(r));
+        (altered(&graph, names, &stage, &wcet), vec![stage, wcet])
+    };
+    let more: Vec<&[u8]> = words.iter().map(|w| &w[..]).collect();
+    let (out, status) = asked_more(command, "gains", &more, input);
+    if out != answer.said {
+        differs(i, text, "other gains", &out, &answer.said);
+    }
+    if status != answer.digit {
+        differs(i, text, "another status of gains", &status, answer.digit);
+    }
+    answer.row
 }
 
 fn differs(i: usize, text: &[u8], what: &str, is: &[u8], should: &[u8]) -> ! {
@@ -59,6 +102,15 @@ fn main() {
     let mut r = Random(words[1].parse().expect("a seed"));
     let command = &words[2..];
     let mut rows: BTreeMap<&str, usize> = BTreeMap::new();
+    for sample in ["samples/case-a.txt", "samples/board.txt"] {
+        let text = std::fs::read(sample).expect("the sample is there");
+        let Given::File { bytes, names } = given("-", &text) else {
+            panic!("{sample} is not accepted");
+        };
+        for i in 0..20 {
+            planned(&mut r, command, i, &text, &bytes, &names);
+        }
+    }
     for i in 0..count {
         let text = text_of(&mut r);
         // a text has no byte 0: with one the bytes are a graph file
@@ -66,9 +118,9 @@ fn main() {
             continue;
         }
         let (out, status) = asked(command, "graph", &text);
-        let (row, should, digit): (&str, Vec<u8>, &[u8]) = match given("-", &text) {
-            Given::File(bytes) => ("accepted", bytes, b"0"),
-            Given::No { row, said } => (row, said.chars().map(|c| c as u8).collect(), b"1"),
+        let (row, should, names, digit): (&str, Vec<u8>, Vec<Vec<u8>>, &[u8]) = match given("-", &text) {
+            Given::File { bytes, names } => ("accepted", bytes, names, b"0"),
+            Given::No { row, said } => (row, said.chars().map(|c| c as u8).collect(), vec![], b"1"),
         };
         *rows.entry(row).or_default() += 1;
         if out != should {
@@ -76,6 +128,9 @@ fn main() {
         }
         if status != digit {
             differs(i, &text, "another status", &status, digit);
+        }
+        if digit == b"0" {
+            *rows.entry(planned(&mut r, command, i, &text, &out, &names)).or_default() += 1;
         }
         // the file's text, and the text's own: both give the file again
         if digit == b"0" && i % 8 == 0 {
@@ -91,8 +146,9 @@ fn main() {
     let seen: Vec<String> = rows.iter().map(|(row, n)| format!("{row} {n}")).collect();
     eprintln!("{count} board texts, no difference: {}", seen.join(", "));
     let wanted = [
-        "11", "12 end", "12 start", "4", "5", "6", "7", "9", "accepted", "byte", "extra", "large", "long line", "long name", "long text",
-        "many", "many waits", "missing", "no number", "no stage", "no type", "twice", "waits twice",
+        "11", "12 end", "12 start", "4", "5", "6", "7", "7 WCET", "7 stage", "9", "STAGE large", "STAGE no number", "WCET large",
+        "WCET no number", "accepted", "altered", "byte", "extra", "gains", "large", "long line", "long name", "long text", "many",
+        "many waits", "missing", "no number", "no stage", "no type", "twice", "waits twice",
     ];
     // few texts need not reach everything
     for row in wanted {

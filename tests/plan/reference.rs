@@ -1,9 +1,9 @@
 //! What a board text gives, written from docs/BOARD.md alone: a graph file, or the lines that say what is wrong.
 use std::collections::HashMap;
 
-/// The file's bytes; or what is printed, with the row of docs/BOARD.md that it is.
+/// The file's bytes and the stages' names; or what is printed, with the row of docs/BOARD.md that it is.
 pub enum Given {
-    File(Vec<u8>),
+    File { bytes: Vec<u8>, names: Vec<Vec<u8>> },
     No { row: &'static str, said: String },
 }
 
@@ -232,15 +232,15 @@ pub fn given(name: &str, text: &[u8]) -> Given {
         let said = format!("refused {} at {}\n{name}: line {}: {}\n", r.number, r.place, r.line, r.says);
         return Given::No { row: r.row, said };
     }
-    let mut file = vec![];
+    let mut bytes = vec![];
     for (i, k) in kinds.iter().enumerate() {
-        file.extend(record(0x54, i, k.cores as usize, 0));
+        bytes.extend(record(0x54, i, k.cores as usize, 0));
     }
     for (v, s) in stages.iter().enumerate() {
-        file.extend(record(0x56, v, types[v], s.wcet));
+        bytes.extend(record(0x56, v, types[v], s.wcet));
     }
     for &(u, v) in &edges {
-        file.extend(record(0x45, u, v, 0));
+        bytes.extend(record(0x45, u, v, 0));
     }
-    Given::File(file)
+    Given::File { bytes, names: stages.into_iter().map(|s| s.name).collect() }
 }

@@ -16,12 +16,16 @@ pub fn bounds(graph: &Graph) -> Bounds {
     let most_cores = *graph.cores.iter().max().expect("a graph has a kind") as u64;
     let plain: Vec<u64> = graph.wcets.iter().map(|&c| c as u64).collect();
     let shares = shares_of_all_kinds(graph);
-    let new = longest_sum(graph, &scaled_weights(graph)) + shares;
+    let new = new_b_1(graph);
     Bounds {
         old: (PARTS_IN_A_TICK - PARTS_IN_A_TICK / most_cores) * longest_sum(graph, &plain) + shares,
         new,
         ticks: new / PARTS_IN_A_TICK,
     }
+}
+
+pub fn new_b_1(graph: &Graph) -> u64 {
+    longest_sum(graph, &scaled_weights(graph)) + shares_of_all_kinds(graph)
 }
 
 /// Each kind's volume divided by its cores, in parts, added up.

@@ -10,11 +10,13 @@
 //!   reader    numbers 1 to 3, then judge; writer   number 13, then judge, then 15
 //!   order     cycle and topological order
 //!   bounds    OLD-B, NEW-B-1 and the least path
+//!   gains     what a rewrite of each vertex would gain, and their ranking
 //!   record    the run record, and which of them suit a graph (16)
 //!   schedule  start, tick, whole run
 //!   sheet     the program's text
 
 pub mod bounds;
+pub mod gains;
 pub mod graph;
 pub mod judge;
 pub mod order;

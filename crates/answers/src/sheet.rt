@@ -22,7 +22,9 @@ fn front(list: &[u8], n: usize) -> &[u8] {
 fn lines(t: &[u8], names: Names, g: Graph, path: &[u8]) -> bool
     requires { ⌜ AcceptedGraph g ⌝ }
 {
-    let sheet = say::sheet::lines(bounds::figures(g), g, path);
+    let gain = gains::table(g);
+    let list = ranks::ranking(&gain, g.n);
+    let sheet = say::sheet::lines(bounds::figures(g), g, path, front(&list, g.n));
     if names.stages == 0 {
         return sheet;
     }

@@ -12,6 +12,8 @@ use Rattle.writer.specs.declared.Wrote.{Wrote}
 use Rattle.bounds.specs.Answers.{BoundsOf, PathOf}
 use Rattle.bounds.specs.declared.Bounded.{Bounded}
 use Rattle.bounds.specs.declared.Pathed.{Pathed}
+use Rattle.gains.specs.Answers.{GainsOf, AlteredOf}
+use Rattle.gains.specs.declared.Gained.{Gained}
 use Rattle.tick.specs.declared.Run.{Run}
 use Rattle.tick.specs.declared.Report.{Report}
 use Rattle.tick.specs.declared.Ticked.{Ticked}
@@ -20,7 +22,7 @@ use Rattle.schedule.specs.Tick.{tickOf}
 use Rattle.schedule.specs.Whole.{playOf, finishesOf}
 use Rattle.schedule.specs.declared.Started.{Started}
 use Rattle.schedule.specs.declared.Played.{Played}
-use Rattle.codes.specs.Coded.{codedGraph, codedWrote, BoundsCoded, PathCoded}
+use Rattle.codes.specs.Coded.{codedGraph, codedWrote, BoundsCoded, PathCoded, GainsCoded, AlteredCoded}
 use Rattle.codes.specs.CodedRun.{codedStart, codedReport, codedTick, codedPlay}
 use Rattle.codes.specs.declared.PlannerGraph.{PlannerGraph}
 use Rattle.codes.specs.declared.PlannerCount.{PlannerCount}
@@ -29,7 +31,7 @@ use Rattle.codes.specs.declared.PlannerRun.{PlannerRun}
 use Rattle.codes.specs.declared.PlannerMoved.{PlannerMoved}
 use Rattle.codes.specs.declared.PlannerTick.{PlannerTick}
 use Rattle.codes.specs.declared.PlannerFinish.{PlannerFinish}
-use Rattle.claims.specs.Entries.{ReadGives, WriteGives, BoundsGives, PathGives, StartGives, TickGives, TickInPlaceGives, RunGives, PlannerReadGives, PlannerWriteGives, PlannerBoundsGives, PlannerPathGives, PlannerStartGives, PlannerTickGives, PlannerTickInPlaceGives, PlannerRunGives}
+use Rattle.claims.specs.Entries.{ReadGives, WriteGives, BoundsGives, PathGives, GainsGives, AlteredGives, StartGives, TickGives, TickInPlaceGives, RunGives, PlannerReadGives, PlannerWriteGives, PlannerBoundsGives, PlannerPathGives, PlannerGainsGives, PlannerAlteredGives, PlannerStartGives, PlannerTickGives, PlannerTickInPlaceGives, PlannerRunGives}
 
 pub read-given : {s : List ℕ} {t : Taken} → ReadGives s t → t ≡ readOf s
 read-given h = sym (h .as-seen .1) ∙ h .ensured ∙ ap readOf (h .as-seen .0)
@@ -46,6 +48,12 @@ bounds-given h = rw (← h .as-seen .0, ← h .as-seen .1) (h .ensured)
 
 pub path-given : {s old new : List ℕ} {p : Pathed} → PathGives s old p new → PathOf s old p new
 path-given h = let i = h .as-seen in rw (← i .0, ← i .1, ← i .2, ← i .3) (h .ensured)
+
+pub gains-given : {s old new : List ℕ} {g : Gained} → GainsGives s old g new → GainsOf s old g new
+gains-given h = let i = h .as-seen in rw (← i .0, ← i .1, ← i .2, ← i .3) (h .ensured)
+
+pub altered-given : {s old new : List ℕ} {v x : ℕ} {g : Gained} → AlteredGives s v x old g new → AlteredOf s v x old g new
+altered-given h = let i = h .as-seen in rw (← i .0, ← i .1, ← i .2, ← i .3, ← i .4, ← i .5) (h .ensured)
 
 pub start-given : {s e : List ℕ} {r : Started} → StartGives s e r → r ≡ startOf s e
 start-given h = let i = h .as-seen in sym (i .2) ∙ h .ensured ∙ ap₂ startOf (i .0) (i .1)
@@ -79,6 +87,12 @@ planner-bounds-given h = rw (← h .as-seen .0, ← h .as-seen .1) (h .ensured)
 
 pub planner-path-given : {s old new : List ℕ} {p : PlannerCount} → PlannerPathGives s old p new → PathCoded s old p new
 planner-path-given h = let i = h .as-seen in rw (← i .0, ← i .1, ← i .2, ← i .3) (h .ensured)
+
+pub planner-gains-given : {s old new : List ℕ} {g : PlannerCount} → PlannerGainsGives s old g new → GainsCoded s old g new
+planner-gains-given h = let i = h .as-seen in rw (← i .0, ← i .1, ← i .2, ← i .3) (h .ensured)
+
+pub planner-altered-given : {s old new : List ℕ} {v x : ℕ} {g : PlannerCount} → PlannerAlteredGives s v x old g new → AlteredCoded s v x old g new
+planner-altered-given h = let i = h .as-seen in rw (← i .0, ← i .1, ← i .2, ← i .3, ← i .4, ← i .5) (h .ensured)
 
 pub planner-start-given : {s e : List ℕ} {r : PlannerRun} → PlannerStartGives s e r → r ≡ codedStart (startOf s e)
 planner-start-given h = let i = h .as-seen in rw (← i .0, ← i .1, ← i .2) (h .ensured)

@@ -5,10 +5,12 @@ pub mod Demand3
 pub mod Called
 pub mod Worked
 -- What the orders brought.
+pub mod Order1
 pub mod Order6
 -- What they cite of this crate.
 pub mod Entries
 pub mod Judged
 pub mod Numbers
+pub mod Lent
 pub mod Running
 pub mod Ending

@@ -2,11 +2,10 @@
 use mathlib.Core.Path.{_≡_, refl, sym, ap, _∙_}
 use mathlib.Core.Bool.{Bool, true, false}
 use mathlib.Core.List.{List, _++_}
-use Prim.Native.Nat.{ℕ, suc, _+_, _-_, _≤_, _<_}
+use Prim.Native.Nat.{ℕ, suc, _≤_, _<_}
 use native.Mathlib.Omega.{arith}
 use lib.Dec.{ltb}
 use lib.ListN.{length, getD, drop, length-append, length-drop, List·getD-append}
-use lib.Seq.{getD-append-add, getD-drop}
 use borrow.Author.Tests.{ltb-false}
 use Rattle.model.specs.Places.{pick, table}
 use Rattle.model.specs.Schedule.{FinishOf, Finish}
@@ -31,6 +30,7 @@ use Rattle.schedule.proofs.Answers.{start-accepted, tick-accepted}
 use Rattle.leaps.proofs.Finishes.{finish-of-vertex, finish-of-all}
 use Rattle.schedule.proofs.TickByTick.{tick-moves, tick-done, by-ticks}
 use Rattle.claims.specs.Claims.{Bytes, IsAccepted, graphIn, schedule, runAt, RunLent}
+use Rattle.claims.proofs.Lent.{kept-past}
 
 module _ (s : List ℕ) (bytes : Bytes s) (ok : IsAccepted s) (e : List ℕ) (fit : judgeTimes (readOf s .graph) e ≡ Accepted) where
   taken : AcceptedGraph (readOf s .graph)
@@ -100,11 +100,5 @@ run-lent s e old F bytes h =
       finish = rw (R .finish) (finish-is s bytes (R .is-accepted) e (R .fit));
       instants = λ v l. rw (List·getD-append (table f n) (drop n old) 0 v (omega arith) ∙ table-at f n v l) (finishes-are s bytes (R .is-accepted) e (R .fit) v l);
       as-long = omega (arith, length-append (table f n) (drop n old), length-drop n old, R .room);
-      kept = λ i l. past (table f n) n i long l;
+      kept = kept-past (table f n) old long;
     })
-  where
-    past : (xs : List ℕ) (n i : ℕ) → length xs ≡ n → n ≤ i → getD (xs ++ drop n old) i 0 ≡ getD old i 0
-    past xs n i e l =
-        let d : length xs + (i - n) ≡ i = omega arith in
-        let b : n + (i - n) ≡ i = omega arith in
-        rw d at (getD-append-add xs (drop n old) (i - n) 0) ∙ getD-drop n old (i - n) 0 ∙ ap (λ (j : ℕ). getD old j 0) b

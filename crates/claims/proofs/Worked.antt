@@ -2,17 +2,19 @@
 use mathlib.Core.Path.{_≡_, refl}
 use mathlib.Core.Bool.{Bool, true, _&&_}
 use mathlib.Core.List.{List, [], _∷_}
-use Prim.Native.Nat.{ℕ, zero, suc, _<_, _/_}
+use Prim.Native.Nat.{ℕ, zero, suc, _+_, _<_, _/_}
 use native.Mathlib.Omega.{arith}
 use lib.Dec.{ltb}
-use lib.ListN.{getD}
+use lib.ListN.{length, getD}
 use borrow.Author.Tests.{ltb-true}
 use Rattle.model.specs.Places.{first, count, any, every, table, padded, sum, largest}
-use Rattle.model.specs.Graph.{source, sink}
-use Rattle.model.specs.Cycle.{walks, cyclic}
+use Rattle.model.specs.Graph.{Graph, WellFormed, source, sink}
+use Rattle.model.specs.Cycle.{Acyclic, walks, cyclic}
 use Rattle.model.specs.Bounds.{PARTS, vol, volume, mostCores, scaled}
 use Rattle.model.specs.ListSchedule.{finishedWithin, finished, ready, goesOn, waits, chosen, leap, steps}
+use Rattle.model.specs.Ranking.{comes}
 use Rattle.model.proofs.Bools.{left-of, right-of}
+use Rattle.model.proofs.Rankings.{manyBefore, rankingOf, ranking-computed}
 use Rattle.graph.specs.File.{wordAt, keyAt, order, isOrder, many, ordinal, column, words, keys, graphOf}
 use Rattle.graph.specs.Model.{from, to, joins, asModel}
 use Rattle.graph.specs.Rules.{rule1, rule2, rule3, rule4, rule5, rule6, rule7, rule8, rule9, rule10, rule11, rule12, holds, places}
@@ -20,6 +22,7 @@ use Rattle.graph.specs.Judge.{placeOf, applies, lowest, judgeFrom, readOf}
 use Rattle.graph.proofs.Accepted.{taken}
 use Rattle.paths.proofs.Computed.{aheadWithin, aheadOf, greatestOf, headOf, nextOf, stepsOf, leastOf}
 use Rattle.bounds.proofs.Computed.{oldOf, newOf, pathOf, old-b-computed, new-b-1-computed, path-computed}
+use Rattle.gaining.proofs.Computed.{gainOf, gain-computed}
 use Rattle.times.specs.Times.{tooLong, judgeTimes}
 use Rattle.schedule.specs.Start.{startedOn, startOf}
 use Rattle.leaps.specs.Finishes.{doneAt, finishAt, finishOf}
@@ -49,26 +52,58 @@ computed s b a o n t p =
       has-path = rw p at (path-computed (A .well-formed) (A .acyclic));
     }
 
--- THEOREM. Cases A to L.
+-- what `gainOf` computes for the vertices from v on
+abbrev Computes : Graph → ℕ → List ℕ → Type 0
+Computes G v [] = Unit {0}
+Computes G v (x ∷ l) = (gainOf G v ≡ x) × Computes G (suc v) l
+
+gains-from : {G : Graph} → WellFormed G → Acyclic G → (v : ℕ) (l : List ℕ) → v + length l ≡ G .n → Computes G v l → worked.EachGain G v l
+gains-from W A v [] m c = tt
+gains-from W A v (x ∷ l) m c = (rw (c .0) at (gain-computed W A v (omega arith)), gains-from W A (suc v) l (omega arith) (c .1))
+
+gained : (s : List ℕ) {gain ranking : List ℕ} → bytes s ≡ true → IsAccepted s → length gain ≡ graphIn s .n → Computes (graphIn s) 0 gain
+    → rankingOf (length gain) (λ v. getD gain v 0) ≡ ranking → worked.HasGains s gain ranking
+gained s {gain} b a m c r =
+    let A = taken s (byte-at s b) a in
+    record {
+      is-accepted = a;
+      has-many = m;
+      has-gains = gains-from (A .well-formed) (A .acyclic) 0 gain (omega (arith, m)) c;
+      has-ranking = rw r at (ranking-computed (length gain) (λ v. getD gain v 0));
+    }
+
+-- THEOREM. Cases A to L, and those of the orders.
 pub cases : worked.All worked.Right worked.rows
-unfolding first count any every table padded sum largest source sink walks cyclic vol volume mostCores scaled finishedWithin finished ready goesOn waits chosen leap steps wordAt keyAt order isOrder many ordinal column words keys graphOf from to joins asModel rule1 rule2 rule3 rule4 rule5 rule6 rule7 rule8 rule9 rule10 rule11 rule12 holds places placeOf applies lowest judgeFrom readOf aheadWithin aheadOf greatestOf headOf nextOf stepsOf leastOf oldOf newOf pathOf tooLong judgeTimes startedOn startOf doneAt finishAt finishOf playIn playOn playOf finishesOf
+unfolding first count any every table padded sum largest source sink walks cyclic vol volume mostCores scaled finishedWithin finished ready goesOn waits chosen leap steps wordAt keyAt order isOrder many ordinal column words keys graphOf from to joins asModel rule1 rule2 rule3 rule4 rule5 rule6 rule7 rule8 rule9 rule10 rule11 rule12 holds places placeOf applies lowest judgeFrom readOf aheadWithin aheadOf greatestOf headOf nextOf stepsOf leastOf oldOf newOf pathOf tooLong judgeTimes startedOn startOf doneAt finishAt finishOf playIn playOn playOf finishesOf gainOf comes manyBefore rankingOf
 cases = (
   computed worked.fileA refl refl refl refl refl refl,
   (
     record { answer = refl; lent = refl },
     (
-      computed _ refl refl refl refl refl refl,
+      gained worked.fileA refl refl refl (refl, (refl, (refl, (refl, tt)))) refl,
       (
         computed _ refl refl refl refl refl refl,
         (
-          computed worked.fileD refl refl refl refl refl refl,
+          computed _ refl refl refl refl refl refl,
           (
-            record { answer = refl; lent = refl },
+            computed worked.fileD refl refl refl refl refl refl,
             (
               record { answer = refl; lent = refl },
               (
-                computed worked.fileF refl refl refl refl refl refl,
-                (record { answer = refl; lent = refl }, (refl, (refl, (refl, (refl, (refl, (refl, tt))))))),
+                record { answer = refl; lent = refl },
+                (
+                  computed worked.fileF refl refl refl refl refl refl,
+                  (
+                    record { answer = refl; lent = refl },
+                    (
+                      gained worked.twoEqual refl refl refl (refl, (refl, (refl, (refl, tt)))) refl,
+                      (
+                        gained worked.chain refl refl refl (refl, (refl, (refl, tt))) refl,
+                        (refl, (refl, (refl, (refl, (refl, (refl, tt)))))),
+                      ),
+                    ),
+                  ),
+                ),
               ),
             ),
           ),

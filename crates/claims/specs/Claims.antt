@@ -14,6 +14,8 @@
 --   WriteAnswered g old w new  the writer's answer: 13, then 4 to 12, with the places that the records would have had, then 15; each leaves
 --                              the room as it was. Else the file, and past it what stood there
 --   PathLent s old new n       the list new, which was old, begins with the n vertices of the file's path and is otherwise as it was
+--   GainsLent G old new n      the list new, which was old, has the gain of each vertex of G, n of them, in its first places, and is otherwise
+--                              as it was
 --   RunLent s e old new F      F is the finish of the file's list schedule; the list new, which was old, has each vertex's finish instant in
 --                              its first N places, and is otherwise as it was
 use mathlib.Core.Path.{_≡_}
@@ -25,6 +27,7 @@ use Rattle.model.specs.Places.{count}
 use Rattle.model.specs.Graph.{Graph, source, sink}
 use Rattle.model.specs.Cycle.{Walk, Acyclic}
 use Rattle.model.specs.Bounds.{ThePath}
+use Rattle.model.specs.Gain.{GainOf}
 use Rattle.model.specs.Schedule.{Schedule, FinishOf, Finish}
 use Rattle.model.specs.ListSchedule.{begin, steps, listSchedule}
 use Rattle.graph.specs.File.{many, graphOf, noGraph}
@@ -92,6 +95,12 @@ pub record PathLent (s old new : List ℕ) (n : ℕ) : Type 0 where
   pub is : ThePath (graphIn s) path
   pub many : n ≡ length path
   pub lent : new ≡ path ++ drop n old
+
+pub record GainsLent (G : Graph) (old new : List ℕ) (n : ℕ) : Type 0 where
+  pub many : n ≡ G .n
+  pub gain : (v : ℕ) → v < n → GainOf G v (getD new v 0)
+  pub as-long : length new ≡ length old
+  pub kept : (i : ℕ) → n ≤ i → getD new i 0 ≡ getD old i 0
 
 pub record RunLent (s e old new : List ℕ) (F : ℕ) : Type 0 where
   pub finish : Finish (graphIn s) (schedule s e) F

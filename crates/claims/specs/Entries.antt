@@ -5,11 +5,20 @@
 --   WriteGives g old w new           `write`: the answer for the lists g, and the lent room from old to new
 --   BoundsGives s b                  `bounds`: the answer for the file s
 --   PathGives s old p new            `path`: the answer for the file s, and the lent list from old to new
+--   GainsGives s old r new           `gains`: the answer for the file s, and the lent list from old to new
+--   AlteredGives s v x old r new     `gains_altered`: the same with the WCET of v set to x
 --   StartGives s e r                 `start`: the answer for the file s and the times e
 --   TickGives s r t                  `tick`: what the record r becomes
 --   TickInPlaceGives s r x r′        `tick_in_place`: the report, and the caller's record from r to r′
 --   RunGives s e old p new           `run`: the answer for the file s and the times e, and the lent list from old to new
 --   PlannerReadGives s r, ..         the same of the entries for C and Rust
+--
+-- Of functions inside, which rest on what their `requires` says:
+--
+--   AfreshGives e st o n w r         the summary r that is made afresh, of the edges e with the starts st, in the order o of n vertices, with the
+--                                    weights w
+--   RenewedGives .. w old v r        the summary r that old is brought up to date to, where w differs in the weight of v
+--   RankingGives gain n l            the ranking l by the gains of n vertices
 use mathlib.Core.Path.{_≡_}
 use mathlib.Core.List.{List}
 use Prim.Native.Nat.{ℕ}
@@ -28,6 +37,18 @@ use Rattle.bounds.proofs.bounds as bounds
 use Rattle.bounds.proofs.bounds.Reads as bounds-reads
 use Rattle.bounds.proofs.path as path
 use Rattle.bounds.proofs.path.Reads as path-reads
+use Rattle.gains.specs.declared.Gained.{Gained}
+use Rattle.gains.proofs.gains as gains
+use Rattle.gains.proofs.gains.Reads as gains-reads
+use Rattle.gains.proofs.gains_altered as gains-altered
+use Rattle.gains.proofs.gains_altered.Reads as gains-altered-reads
+use Rattle.summary.specs.declared.Summary.{Summary}
+use Rattle.summary.proofs.afresh as afresh
+use Rattle.summary.proofs.afresh.Reads as afresh-reads
+use Rattle.summary.proofs.altered as renewed
+use Rattle.summary.proofs.altered.Reads as renewed-reads
+use Rattle.ranks.proofs.ranking as ranking
+use Rattle.ranks.proofs.ranking.Reads as ranking-reads
 use Rattle.tick.specs.declared.Run.{Run}
 use Rattle.tick.specs.declared.Report.{Report}
 use Rattle.tick.specs.declared.Ticked.{Ticked}
@@ -56,6 +77,10 @@ use Rattle.planner.proofs.planner_bounds as planner-bounds
 use Rattle.planner.proofs.planner_bounds.Reads as planner-bounds-reads
 use Rattle.planner.proofs.planner_path as planner-path
 use Rattle.planner.proofs.planner_path.Reads as planner-path-reads
+use Rattle.planner.proofs.planner_gains as planner-gains
+use Rattle.planner.proofs.planner_gains.Reads as planner-gains-reads
+use Rattle.planner.proofs.planner_gains_altered as planner-gains-altered
+use Rattle.planner.proofs.planner_gains_altered.Reads as planner-gains-altered-reads
 use Rattle.planner.proofs.planner_start as planner-start
 use Rattle.planner.proofs.planner_start.Reads as planner-start-reads
 use Rattle.planner.proofs.planner_tick as planner-tick
@@ -80,6 +105,15 @@ abbrev pub PathGives : List ℕ → List ℕ → Pathed → List ℕ → Type 0
 PathGives s old p new =
     Allows path.ended path-reads.Post (λ κs a r e. (now (a .0) ≡ s) × (now (a .1 .0) ≡ old) × (r ≡ p) × (now (e .1 .0) ≡ new))
 
+abbrev pub GainsGives : List ℕ → List ℕ → Gained → List ℕ → Type 0
+GainsGives s old g new =
+    Allows gains.ended gains-reads.Post (λ κs a r e. (now (a .0) ≡ s) × (now (a .1 .0) ≡ old) × (r ≡ g) × (now (e .1 .0) ≡ new))
+
+abbrev pub AlteredGives : List ℕ → ℕ → ℕ → List ℕ → Gained → List ℕ → Type 0
+AlteredGives s v x old g new =
+    Allows gains-altered.ended gains-altered-reads.Post
+    (λ κs a r e. (now (a .0) ≡ s) × (a .1 .0 ≡ v) × (a .1 .1 .0 ≡ x) × (now (a .1 .1 .1 .0) ≡ old) × (r ≡ g) × (now (e .1 .1 .1 .0) ≡ new))
+
 abbrev pub StartGives : List ℕ → List ℕ → Started → Type 0
 StartGives s e r = Allows start.ended start-reads.Post (λ κs a x w. (now (a .0) ≡ s) × (now (a .1 .0) ≡ e) × (x ≡ r))
 
@@ -93,6 +127,22 @@ TickInPlaceGives s r x r′ =
 abbrev pub RunGives : List ℕ → List ℕ → List ℕ → Played → List ℕ → Type 0
 RunGives s e old p new =
     Allows run.ended run-reads.Post (λ κs a r w. (now (a .0) ≡ s) × (now (a .1 .0) ≡ e) × (now (a .1 .1 .0) ≡ old) × (r ≡ p) × (now (w .1 .1 .0) ≡ new))
+
+-- ---- inside
+
+abbrev pub AfreshGives : List ℕ → List ℕ → List ℕ → ℕ → List ℕ → Summary → Type 0
+AfreshGives e st o n w r =
+    Allows afresh.ended (λ κs a x l. afresh-reads.Pre κs a × afresh-reads.Post κs a x l)
+    (λ κs a x l. (now (a .0) ≡ e) × (now (a .1 .0) ≡ st) × (now (a .1 .1 .0) ≡ o) × (a .1 .1 .1 .0 ≡ n) × (now (a .1 .1 .1 .1 .0) ≡ w) × (x ≡ r))
+
+abbrev pub RenewedGives : List ℕ → List ℕ → List ℕ → ℕ → List ℕ → Summary → ℕ → Summary → Type 0
+RenewedGives e st o n w old v r =
+    Allows renewed.ended (λ κs a x l. renewed-reads.Pre κs a × renewed-reads.Post κs a x l)
+    (λ κs a x l. (now (a .0) ≡ e) × (now (a .1 .0) ≡ st) × (now (a .1 .1 .0) ≡ o) × (a .1 .1 .1 .0 ≡ n) × (now (a .1 .1 .1 .1 .0) ≡ w) × (a .1 .1 .1 .1 .1 .0 ≡ old) × (a .1 .1 .1 .1 .1 .1 .0 ≡ v) × (x ≡ r))
+
+abbrev pub RankingGives : List ℕ → ℕ → List ℕ → Type 0
+RankingGives gain n l =
+    Allows ranking.ended (λ κs a x e. ranking-reads.Pre κs a × ranking-reads.Post κs a x e) (λ κs a x e. (now (a .0) ≡ gain) × (a .1 .0 ≡ n) × (x ≡ l))
 
 -- ---- for C and Rust
 
@@ -110,6 +160,15 @@ PlannerBoundsGives s b = Allows planner-bounds.ended planner-bounds-reads.Post (
 abbrev pub PlannerPathGives : List ℕ → List ℕ → PlannerCount → List ℕ → Type 0
 PlannerPathGives s old p new =
     Allows planner-path.ended planner-path-reads.Post (λ κs a r e. (now (a .0) ≡ s) × (now (a .1 .0) ≡ old) × (r ≡ p) × (now (e .1 .0) ≡ new))
+
+abbrev pub PlannerGainsGives : List ℕ → List ℕ → PlannerCount → List ℕ → Type 0
+PlannerGainsGives s old g new =
+    Allows planner-gains.ended planner-gains-reads.Post (λ κs a r e. (now (a .0) ≡ s) × (now (a .1 .0) ≡ old) × (r ≡ g) × (now (e .1 .0) ≡ new))
+
+abbrev pub PlannerAlteredGives : List ℕ → ℕ → ℕ → List ℕ → PlannerCount → List ℕ → Type 0
+PlannerAlteredGives s v x old g new =
+    Allows planner-gains-altered.ended planner-gains-altered-reads.Post
+    (λ κs a r e. (now (a .0) ≡ s) × (a .1 .0 ≡ v) × (a .1 .1 .0 ≡ x) × (now (a .1 .1 .1 .0) ≡ old) × (r ≡ g) × (now (e .1 .1 .1 .0) ≡ new))
 
 abbrev pub PlannerStartGives : List ℕ → List ℕ → PlannerRun → Type 0
 PlannerStartGives s e r =

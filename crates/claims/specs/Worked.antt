@@ -5,9 +5,12 @@
 --   rows           all lines
 use mathlib.Core.Path.{_≡_}
 use mathlib.Core.List.{List, [], _∷_, _++_}
-use Prim.Native.Nat.{ℕ, _/_}
-use lib.ListN.{length, replicate}
+use Prim.Native.Nat.{ℕ, suc, _/_}
+use lib.ListN.{length, getD, replicate}
+use Rattle.model.specs.Graph.{Graph}
 use Rattle.model.specs.Bounds.{PARTS, OldB, NewB1, ThePath}
+use Rattle.model.specs.Gain.{GainOf}
+use Rattle.model.specs.Ranking.{Ranking}
 use Rattle.graph.specs.Judge.{readOf}
 use Rattle.graph.specs.declared.Answer.{Answer}
 use Rattle.graph.specs.declared.Answer.the-variants.{Refused}
@@ -16,10 +19,11 @@ use Rattle.schedule.specs.Whole.{playOf, finishesOf}
 use Rattle.schedule.specs.declared.Played.the-variants.{Finish}
 use Rattle.claims.specs.Claims.{IsAccepted, graphIn}
 
--- the file's bounds in parts, NEW-B-1 in whole ticks, and its path; a whole run with these times: finish instants and finish; a refused
--- file; a refused start
+-- the file's bounds in parts, NEW-B-1 in whole ticks, and its path; the gain of each vertex, and the vertices by gain; a whole run with these
+-- times: finish instants and finish; a refused file; a refused start
 pub data Row : Type 0 where
   bounds : (file : List ℕ) (old new ticks : ℕ) (path : List ℕ) → Row
+  gains : (file gain ranking : List ℕ) → Row
   run : (file times finishes : List ℕ) (finish : ℕ) → Row
   no-file : (file : List ℕ) (number place : ℕ) → Row
   no-start : (file times : List ℕ) (number place : ℕ) → Row
@@ -31,6 +35,17 @@ pub record HasBounds (file : List ℕ) (old new ticks : ℕ) (path : List ℕ) :
   pub has-ticks : new / PARTS ≡ ticks
   pub has-path : ThePath (graphIn file) path
 
+-- the gains of the vertices from v on
+abbrev pub EachGain : Graph → ℕ → List ℕ → Type 0
+EachGain G v [] = Unit {0}
+EachGain G v (x ∷ l) = GainOf G v x × EachGain G (suc v) l
+
+pub record HasGains (file gain ranking : List ℕ) : Type 0 where
+  pub is-accepted : IsAccepted file
+  pub has-many : length gain ≡ graphIn file .n
+  pub has-gains : EachGain (graphIn file) 0 gain
+  pub has-ranking : Ranking (length gain) (λ v. getD gain v 0) ranking
+
 pub record HasRun (file times finishes : List ℕ) (finish : ℕ) : Type 0 where
   pub answer : playOf file times (length finishes) ≡ Finish (record { 0 = finish })
   pub lent : finishesOf file times (replicate (length finishes) 0) ≡ finishes
@@ -40,6 +55,7 @@ refusedWith number place = Refused (record { number = number; place = place })
 
 abbrev pub Right : Row → Type 0
 Right (bounds file old new ticks path) = HasBounds file old new ticks path
+Right (gains file gain ranking) = HasGains file gain ranking
 Right (run file times finishes finish) = HasRun file times finishes finish
 Right (no-file file number place) = readOf file .answer ≡ refusedWith number place
 Right (no-start file times number place) = startOf file times .answer ≡ refusedWith number place
@@ -77,6 +93,12 @@ fileD =
 abbrev pub fileF : List ℕ
 fileF = kind 0 1 ++ vertex 0 0 0
 
+abbrev pub twoEqual : List ℕ
+twoEqual = kind 0 2 ++ vertex 0 0 2 ++ vertex 1 0 3 ++ vertex 2 0 3 ++ vertex 3 0 4 ++ edgesA
+
+abbrev pub chain : List ℕ
+chain = kind 0 2 ++ vertex 0 0 3 ++ vertex 1 0 0 ++ vertex 2 0 2 ++ edge 0 1 ++ edge 1 2
+
 -- ---- the table
 
 abbrev pub rows : List Row
@@ -84,6 +106,7 @@ rows =
     -- A
     bounds fileA 14174160 13693680 19 (0 ∷ 1 ∷ 3 ∷ [])
     ∷ run fileA (4 ∷ 9 ∷ 6 ∷ 3 ∷ []) (4 ∷ 13 ∷ 10 ∷ 16 ∷ []) 16
+    ∷ gains fileA (2882880 ∷ 4324320 ∷ 2162160 ∷ 2162160 ∷ []) (1 ∷ 0 ∷ 2 ∷ 3 ∷ [])
     -- B, C: A with 4 and with 16 cores of kind 0
     ∷ bounds (withEdges 4 edgesA) 13333320 12612600 17 (0 ∷ 1 ∷ 3 ∷ [])
     ∷ bounds (withEdges 16 edgesA) 14144130 11801790 16 (0 ∷ 1 ∷ 3 ∷ [])
@@ -94,6 +117,9 @@ rows =
     -- F
     ∷ bounds fileF 0 0 0 (0 ∷ [])
     ∷ run fileF (0 ∷ []) (0 ∷ []) 0
+    -- order 1: two equal longest paths, 0 1 3 and 0 2 3; a WCET of 0 in a chain
+    ∷ gains twoEqual (1441440 ∷ 1081080 ∷ 1081080 ∷ 2882880 ∷ []) (3 ∷ 0 ∷ 1 ∷ 2 ∷ [])
+    ∷ gains chain (2162160 ∷ 0 ∷ 1441440 ∷ []) (0 ∷ 2 ∷ 1 ∷ [])
     -- G: empty; H: seven bytes
     ∷ no-file [] 4 0
     ∷ no-file (0x54 ∷ 0 ∷ 2 ∷ 0 ∷ 0 ∷ 0 ∷ 0 ∷ []) 1 0

@@ -7,6 +7,8 @@ use Rattle.codes.proofs.coded_wrote as coded-wrote
 use Rattle.codes.proofs.coded_wrote.Reads as coded-wrote-reads
 use Rattle.codes.proofs.coded_bounds as coded-bounds
 use Rattle.codes.proofs.coded_bounds.Reads as coded-bounds-reads
+use Rattle.codes.proofs.coded_gains as coded-gains
+use Rattle.codes.proofs.coded_gains.Reads as coded-gains-reads
 use Rattle.codes.proofs.coded_path as coded-path
 use Rattle.codes.proofs.coded_path.Reads as coded-path-reads
 use Rattle.codes.proofs.coded_start as coded-start
@@ -26,6 +28,9 @@ coded-wrote-one κs a r r′ ws ws′ pre p q = (p ∙ sym q, refl)
 
 pub coded-bounds-one : OneOutcome coded-bounds.ended coded-bounds-reads.Pre coded-bounds-reads.Post
 coded-bounds-one κs a r r′ ws ws′ pre p q = (p ∙ sym q, refl)
+
+pub coded-gains-one : OneOutcome coded-gains.ended coded-gains-reads.Pre coded-gains-reads.Post
+coded-gains-one κs a r r′ ws ws′ pre p q = (p ∙ sym q, refl)
 
 pub coded-path-one : OneOutcome coded-path.ended coded-path-reads.Pre coded-path-reads.Post
 coded-path-one κs a r r′ ws ws′ pre p q = (p ∙ sym q, refl)

@@ -3,6 +3,8 @@
 --   codedGraph, codedWrote, ..        each entry's answer, by its number, place and value (`Said`)
 --   BoundsCoded s r                   r is the coded answer of `bounds` for the file s
 --   PathCoded s old r new             r is the coded answer of `path` for the file s, and the lent list goes from old to new
+--   GainsCoded s old r new            so too for `gains`
+--   AlteredCoded s v x old r new      so too for `gains_altered`, with the WCET of v set to x
 use mathlib.Core.Path.{_≡_}
 use mathlib.Core.List.{List}
 use Prim.Native.Nat.{ℕ}
@@ -13,6 +15,8 @@ use Rattle.writer.specs.Write.{ofWrote}
 use Rattle.bounds.specs.Answers.{BoundsOf, PathOf, ofPathed}
 use Rattle.bounds.specs.declared.Bounded.{Bounded}
 use Rattle.bounds.specs.declared.Pathed.{Pathed}
+use Rattle.gains.specs.Answers.{GainsOf, AlteredOf, ofGained}
+use Rattle.gains.specs.declared.Gained.{Gained}
 use Rattle.codes.specs.declared.PlannerGraph.{PlannerGraph}
 use Rattle.codes.specs.declared.PlannerCount.{PlannerCount}
 use Rattle.codes.specs.declared.PlannerBounds.{PlannerBounds}
@@ -25,6 +29,9 @@ codedWrote w = record { number = ofWrote w .number; place = ofWrote w .place; co
 
 abbrev pub codedPath : Pathed → PlannerCount
 codedPath p = record { number = ofPathed p .number; place = ofPathed p .place; count = ofPathed p .value }
+
+abbrev pub codedGains : Gained → PlannerCount
+codedGains g = record { number = ofGained g .number; place = ofGained g .place; count = ofGained g .value }
 
 abbrev pub codedBounds : Bounded → PlannerBounds
 codedBounds b = record {
@@ -44,3 +51,13 @@ pub record PathCoded (s old : List ℕ) (r : PlannerCount) (new : List ℕ) : Ty
   pub found : Pathed
   pub of : PathOf s old found new
   pub coded : r ≡ codedPath found
+
+pub record GainsCoded (s old : List ℕ) (r : PlannerCount) (new : List ℕ) : Type 0 where
+  pub found : Gained
+  pub of : GainsOf s old found new
+  pub coded : r ≡ codedGains found
+
+pub record AlteredCoded (s : List ℕ) (v x : ℕ) (old : List ℕ) (r : PlannerCount) (new : List ℕ) : Type 0 where
+  pub found : Gained
+  pub of : AlteredOf s v x old found new
+  pub coded : r ≡ codedGains found

@@ -2,10 +2,11 @@
 // refusal.
 ghost use mathlib.Core.Path.{_≡_};
 ghost use Rattle.graph.specs.Said.{ofAnswer};
-ghost use Rattle.codes.specs.Coded.{codedGraph, codedWrote, codedPath, codedBounds};
+ghost use Rattle.codes.specs.Coded.{codedGraph, codedWrote, codedPath, codedGains, codedBounds};
 ghost use Rattle.codes.specs.CodedRun.{codedStart, codedReport, codedTick, codedPlay};
 use bounds::Bounded;
 use bounds::Pathed;
+use gains::Gained;
 use graph::Answer;
 use graph::Graph;
 use graph::Taken;
@@ -24,7 +25,7 @@ pub struct PlannerGraph {
     pub graph: Graph,
 }
 
-// How many bytes were written, or vertices a path has; 0 beside a refusal.
+// How many bytes were written, or vertices a path or a graph has; 0 beside a refusal.
 #[repr(C)]
 pub struct PlannerCount {
     pub number: u32,
@@ -145,6 +146,23 @@ pub fn coded_path(pathed: Pathed) -> PlannerCount
             count: n as u64,
         },
         Pathed::Refused(refusal) => PlannerCount {
+            number: refusal.number,
+            place: refusal.place,
+            count: 0,
+        },
+    }
+}
+
+pub fn coded_gains(gained: Gained) -> PlannerCount
+    ensures { λ r. ⌜ r ≡ codedGains gained ⌝ }
+{
+    match gained {
+        Gained::Vertices(n) => PlannerCount {
+            number: 0,
+            place: 0,
+            count: n as u64,
+        },
+        Gained::Refused(refusal) => PlannerCount {
             number: refusal.number,
             place: refusal.place,
             count: 0,

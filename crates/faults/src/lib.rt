@@ -60,6 +60,8 @@ pub const KINDS_NONE: usize = 25;
 
 pub const STAGES_NONE: usize = 26;
 
+pub const ABSENT: usize = 27;
+
 // The row that says it, and the place in the text of the word that it is about.
 pub struct Fault {
     pub row: usize,

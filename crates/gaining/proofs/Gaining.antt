@@ -3,18 +3,18 @@ use mathlib.Core.Path.{_≡_, refl, sym, ap, _∙_}
 use mathlib.Core.Bool.{Bool, true, false}
 use mathlib.Core.List.{List}
 use mathlib.Core.Logic.{_⊎_, inl, inr}
-use Prim.Native.Nat.{ℕ, _+_, _-_, _*_, _≤_, _<_}
+use Prim.Native.Nat.{ℕ, _+_, _-_, _*_, _≤_, _<_, max}
 use native.Mathlib.Omega.{arith}
 use native.Mathlib.Decide.{ℕ-discrete}
 use lib.Dec.{eqb}
-use lib.ListN.{getD, length, set, replicate, length-set, length-replicate}
+use lib.ListN.{getD, length, set, length-set}
 use lib.Seq.{getD-set-same, getD-set-other}
-use Rattle.model.specs.Places.{pick, along}
+use Rattle.model.specs.Places.{pick, along, largest}
 use Rattle.model.specs.Path.{Greatest}
 use Rattle.model.specs.Bounds.{PARTS, scaled}
 use Rattle.model.specs.Gain.{GainOf}
 use Rattle.model.proofs.Bools.{le-or-lt}
-use Rattle.model.proofs.Tables.{zeros}
+use Rattle.model.proofs.Sums.{largest-more}
 use Rattle.model.proofs.Joined.{without}
 use Rattle.model.proofs.Summaries.{ending-own, starting-own}
 use Rattle.model.proofs.Gains.{shareOf, share-and-scaled, greatest-falls, gain-law}
@@ -22,44 +22,20 @@ use Rattle.graph.specs.Model.{asModel}
 use Rattle.graph.specs.declared.Graph.{Graph}
 use Rattle.paths.specs.Ahead.{weigh, Weighed}
 use Rattle.paths.proofs.Complete.{greatest-same}
-use Rattle.gaining.specs.Passing.{at, passOf, Scannable, Passed}
-use Rattle.gaining.specs.Gaining.{leftBy, gainBy, Fitting, Gainable, GainsIn}
+use Rattle.summary.specs.Row.{many, nth, Told}
 use Rattle.summary.specs.declared.Summary.{Summary}
-use Rattle.gaining.specs.declared.passing.Passed as declared
-use Rattle.summary.proofs.Along.{well-formed, few, vertex, place, place-below, place-at, vertex-at, row, ending-small, starting-small}
-use Rattle.gaining.proofs.Tops.{top-within}
-use Rattle.gaining.proofs.Lefts.{len-greatest, left-greatest}
+use Rattle.summary.proofs.Along.{well-formed, few, vertex, place, place-below, place-at, vertex-at, nth-joins, rises, ending-small, starting-small}
+use Rattle.summary.proofs.Raised.{raised-none, raised-more}
+use Rattle.gaining.specs.Passing.{at, onward, TopFrom, Led}
+use Rattle.gaining.specs.Gaining.{leftBy, gainBy, Fitting, Gainable, GainsIn}
+use Rattle.gaining.specs.declared.passing.Top.{Top}
+use Rattle.gaining.proofs.Tops.{top-led}
+use Rattle.gaining.proofs.Lefts.{Best, len-greatest, left-greatest}
 
 -- weights that are the same stay so without that of a vertex
 without-same : (b : Bool) (x y : ℕ) → x ≡ y → pick b 0 x ≡ pick b 0 y
 without-same true x y q = refl
 without-same false x y q = q
-
--- the gain of the vertex v, which stands at place p
-abbrev pub gainAt : declared.Passed → Summary → List ℕ → List ℕ → ℕ → ℕ → ℕ
-gainAt q r w c p v = gainBy (q .len) (getD (q .past) p 0) (getD (r .ending) v 0) (getD (r .starting) v 0) (weigh w v) (getD c v 0)
-
--- the gains of the vertices at the first p places, x being the gain of a vertex at its place
-pub record Gained (o : List ℕ) (n : ℕ) (x : ℕ → ℕ → ℕ) (p : ℕ) (l : List ℕ) : Type 0 where
-  pub size : length l ≡ 128
-  pub held : (i : ℕ) → i < p → getD l (getD o i 0) 0 ≡ x i (getD o i 0)
-  pub past : (v : ℕ) → n ≤ v → getD l v 0 ≡ 0
-
-pub gained-none : (o : List ℕ) (n : ℕ) (x : ℕ → ℕ → ℕ) → Gained o n x 0 (replicate 128 0)
-gained-none o n x = record { size = length-replicate {A = ℕ} 128 0; held = λ i h. absurd (omega arith); past = λ v h. zeros 128 v }
-
-pub gained-more : {g : Graph} {e st o : List ℕ} {n : ℕ} {w : List ℕ} (T : Weighed g e st o n w) (x : ℕ → ℕ → ℕ) (p y : ℕ) (l : List ℕ) → p < n → y ≡ x p (getD o p 0)
-    → Gained o n x p l → Gained o n x (p + 1) (set l (getD o p 0) y)
-gained-more {o = o} T x p y l h is D = record {
-  size = length-set l (getD o p 0) y ∙ D .size;
-  held = λ i k. held i k (ℕ-discrete i p);
-  past = λ v k. getD-set-other l (getD o p 0) v y 0 (λ z. omega (arith, vertex T p h, T .vertices)) ∙ D .past v k;
-}
-  where
-    held : (i : ℕ) → i < p + 1 → Dec (i ≡ p) → getD (set l (getD o p 0) y) (getD o i 0) 0 ≡ x i (getD o i 0)
-    held i k (yes z) = rw z (getD-set-same l (getD o p 0) y 0 (omega (arith, D .size, vertex T p h, few T)) ∙ is)
-    held i k (no z) =
-        getD-set-other l (getD o p 0) (getD o i 0) y 0 (λ j. z (sym (place-at T i (omega arith)) ∙ (ap (place T) j ∙ place-at T p h))) ∙ D .held i (omega arith)
 
 module _ {g : Graph} {e st o : List ℕ} {n : ℕ} {w c : List ℕ} {r : Summary} (M : Gainable g e st o n w c r) where
   abbrev T : Weighed g e st o n w
@@ -71,72 +47,142 @@ module _ {g : Graph} {e st o : List ℕ} {n : ℕ} {w c : List ℕ} {r : Summary
   abbrev B : ℕ → ℕ
   B v = getD (r .starting) v 0
 
-  pub scannable : Scannable e st o n (r .ending) (r .starting)
+  small-ending : (v : ℕ) → (g .n ≤ v) ⊎ (v < g .n) → E v ≤ 92252160000000
   unfolding asModel
-  scannable = record {
-    few = omega (arith, T .vertices, few T);
-    row = λ i l. row T (getD o i 0) (vertex T i l);
-    small-ending = λ v. ends v (le-or-lt (g .n) v);
-    small-starting = λ v. begins v (le-or-lt (g .n) v);
+  small-ending v (inl l) = omega (arith, M .summed .ending-past v l)
+  small-ending v (inr l) = ending-small T (M .summed .sums .ending v l)
+
+  small-starting : (v : ℕ) → (g .n ≤ v) ⊎ (v < g .n) → B v ≤ 92252160000000
+  unfolding asModel
+  small-starting v (inl l) = omega (arith, M .summed .starting-past v l)
+  small-starting v (inr l) = starting-small T (M .summed .sums .starting v l)
+
+  pub ends-small : (v : ℕ) → E v ≤ 92252160000000
+  ends-small v = small-ending v (le-or-lt (g .n) v)
+
+  pub starts-small : (v : ℕ) → B v ≤ 92252160000000
+  starts-small v = small-starting v (le-or-lt (g .n) v)
+
+  -- what the pass has at place p: what passes it, the gains of the vertices before it, and the sums that end at the others
+  pub record Swept (p : ℕ) (s : List ℕ) (t : Top) (x : ℕ) (l : List ℕ) : Type 0 where
+    pub size : length s ≡ 128
+    pub best : (v : ℕ) → v < g .n → Best T r (M .summed) s p v
+    pub top : TopFrom o s n p t
+    pub ended : x ≡ largest (at o (r .ending)) p
+    pub long : length l ≡ 128
+    pub sums : (v : ℕ) → v < g .n → p ≤ place T v → getD l v 0 ≡ E v
+    pub gain : (v : ℕ) → v < g .n → place T v < p → GainOf (asModel g) v (getD l v 0)
+    pub past : (v : ℕ) → n ≤ v → getD l v 0 ≡ 0
+
+  pub swept-none : (t : Top) → TopFrom o (r .starting) n 0 t → Swept 0 (r .starting) t 0 (r .ending)
+  unfolding largest asModel
+  swept-none t F = record {
+    size = M .summed .starting-size;
+    best = λ v l. raised-none T _ _ (r .starting) v refl;
+    top = F;
+    ended = refl;
+    long = M .summed .ending-size;
+    sums = λ v l h. refl;
+    gain = λ v l h. absurd (omega arith);
+    past = λ v h. M .summed .ending-past v (omega (arith, T .vertices));
   }
-    where
-      ends : (v : ℕ) → (g .n ≤ v) ⊎ (v < g .n) → E v ≤ 92252160000000
-      ends v (inl l) = omega (arith, M .summed .ending-past v l)
-      ends v (inr l) = ending-small T (M .summed .sums .ending v l)
 
-      begins : (v : ℕ) → (g .n ≤ v) ⊎ (v < g .n) → B v ≤ 92252160000000
-      begins v (inl l) = omega (arith, M .summed .starting-past v l)
-      begins v (inr l) = starting-small T (M .summed .sums .starting v l)
+  -- the sum that ends at the vertex whose turn it is
+  pub swept-sum : (p : ℕ) → p < n → (s : List ℕ) (t : Top) (x : ℕ) (l : List ℕ) → Swept p s t x l → getD l (getD o p 0) 0 ≡ E (getD o p 0)
+  swept-sum p h s t x l D = D .sums (getD o p 0) (vertex T p h) (omega (arith, place-at T p h))
 
-  module _ {q : declared.Passed} (D : Passed e st o n (r .ending) (r .starting) q) where
-    len-is : Greatest (asModel g) (along (weigh w)) (q .len)
-    len-is = rw (D .longest) (len-greatest T r (M .summed))
+  -- t₀ is the largest sum that starts anywhere, and t′ the largest past place p
+  module _ (t₀ : Top) (L : TopFrom o (r .starting) n 0 t₀) (p : ℕ) (h : p < n) (s : List ℕ) (t : Top) (x : ℕ) (l : List ℕ) (D : Swept p s t x l) (t′ : Top)
+      (N : TopFrom o s n (p + 1) t′) where
+    abbrev u : ℕ
+    u = getD o p 0
 
-    module _ (p v : ℕ) (l : v < g .n) (here : place T v ≡ p) where
-      abbrev left : ℕ
-      left = leftBy (getD (q .past) p 0) (E v) (B v) (weigh w v)
+    known : u < g .n
+    known = vertex T p h
 
-      left-is : Greatest (asModel g) (along (without (weigh w) v)) left
-      left-is =
-          let z : getD (q .past) p 0 ≡ passOf e st o n (r .ending) (r .starting) n (place T v) = rw here (D .passes p (omega (arith, here, place-below T v l))) in
-          rw z (left-greatest T r (M .summed) v l)
+    abbrev left : ℕ
+    left = leftBy (max (t′ .most) x) (E u) (B u) (weigh w u)
 
-      wcet : getD c v 0 ≡ asModel g .wcet v
-      unfolding asModel
-      wcet = ap (λ (x : List ℕ). getD x v 0) (M .wcets)
+    len-is : Greatest (asModel g) (along (weigh w)) (t₀ .most)
+    len-is = len-greatest T r (M .summed) t₀ L
 
-      parts : weigh w v + shareOf (asModel g) v ≡ getD c v 0 * PARTS
-      parts = rw (M .scaled-weights v l, wcet) (share-and-scaled (asModel g) v)
+    left-is : Greatest (asModel g) (along (without (weigh w) u)) left
+    left-is =
+        let q = place-at T p h in
+        rw (D .ended) (rw q at (left-greatest T r (M .summed) u known s (rw q (D .best)) t′ (rw q N)))
 
-      pub fits : Fitting (q .len) (getD (q .past) p 0) (E v) (B v) (weigh w v) (getD c v 0)
-      unfolding asModel
-      fits = record {
-        whole = omega (arith, D .longest, top-within (at o (r .starting)) n 92252160000000 0 (λ i k. scannable .small-starting (getD o i 0)));
-        left = greatest-falls (weigh w) v len-is left-is;
-        small-ending = scannable .small-ending v;
-        small-starting = scannable .small-starting v;
-        own-ending = ending-own (M .summed .sums .ending v l);
-        own-starting = starting-own (M .summed .sums .starting v l);
-        short = omega (arith, wcet, T .rows .accepted .short v l);
-        own-part = omega (arith, parts);
-      }
-
-      -- THEOREM. It is the gain.
-      gain-found : GainOf (asModel g) v (gainAt q r w c p v)
-      unfolding asModel
-      gain-found =
-          let z : gainAt q r w c p v ≡ q .len - left + shareOf (asModel g) v = ap (λ (x : ℕ). q .len - left + x) (omega (arith, parts)) in
-          rw z
-          (gain-law (well-formed T) v l (greatest-same (well-formed T) (weigh w) (scaled (asModel g)) (M .scaled-weights) len-is)
-          (greatest-same (well-formed T) (without (weigh w) v) (without (scaled (asModel g)) v)
-          (λ u k. without-same (eqb u v) (weigh w u) (scaled (asModel g) u) (M .scaled-weights u k)) left-is))
-
-    pub gained-done : (l : List ℕ) → Gained o n (gainAt q r w c) n l → GainsIn (asModel g) l
+    wcet : getD c u 0 ≡ asModel g .wcet u
     unfolding asModel
-    gained-done l F = record { size = F .size; gain = gain; past = λ v k. F .past v (omega (arith, T .vertices)) }
+    wcet = ap (λ (y : List ℕ). getD y u 0) (M .wcets)
+
+    parts : weigh w u + shareOf (asModel g) u ≡ getD c u 0 * PARTS
+    parts = rw (M .scaled-weights u known, wcet) (share-and-scaled (asModel g) u)
+
+    pub fits : Fitting (t₀ .most) (max (t′ .most) x) (E u) (B u) (weigh w u) (getD c u 0)
+    unfolding asModel
+    fits = record {
+      whole = whole (L .is);
+      left = greatest-falls (weigh w) u len-is left-is;
+      small-ending = ends-small u;
+      small-starting = starts-small u;
+      own-ending = ending-own (M .summed .sums .ending u known);
+      own-starting = starting-own (M .summed .sums .starting u known);
+      short = omega (arith, wcet, T .rows .accepted .short u known);
+      own-part = omega (arith, parts);
+    }
       where
-        gain : (v : ℕ) → v < g .n → GainOf (asModel g) v (getD l v 0)
-        gain v k =
-            let i = place T v in
-            let z : getD l v 0 ≡ gainAt q r w c i v = rw (vertex-at T v k) at (F .held i (place-below T v k)) in
-            rw z (gain-found i v k refl)
+        whole : (t₀ .most ≡ 0) ⊎ ((q : ℕ) × (0 ≤ q) × (q < n) × (t₀ .vertex ≡ getD o q 0) × (t₀ .most ≡ at o (r .starting) q))
+            → t₀ .most ≤ 92252160000000
+        whole (inl z) = omega arith
+        whole (inr y) = omega (arith, y .4, starts-small (getD o (y .0) 0))
+
+    abbrev found : ℕ
+    found = gainBy (t₀ .most) (max (t′ .most) x) (E u) (B u) (weigh w u) (getD c u 0)
+
+    -- THEOREM. It is the gain.
+    gain-found : GainOf (asModel g) u found
+    unfolding asModel
+    gain-found =
+        let z : found ≡ t₀ .most - left + shareOf (asModel g) u = ap (λ (y : ℕ). t₀ .most - left + y) (omega (arith, parts)) in
+        rw z
+        (gain-law (well-formed T) u known (greatest-same (well-formed T) (weigh w) (scaled (asModel g)) (M .scaled-weights) len-is)
+        (greatest-same (well-formed T) (without (weigh w) u) (without (scaled (asModel g)) u)
+        (λ v k. without-same (eqb v u) (weigh w v) (scaled (asModel g) v) (M .scaled-weights v k)) left-is))
+
+    module _ (s′ : List ℕ) (C : Told e st (onward (r .starting) (E u)) u (many st u) s s′) (t″ : Top)
+        (H : Led e st (onward (r .starting) (E u)) u (many st u) t′ t″) (x′ : ℕ) (ends : x′ ≡ max x (E u)) (y : ℕ) (is : y ≡ found) where
+      pub swept-more : Swept (p + 1) s′ t″ x′ (set l u y)
+      unfolding asModel
+      swept-more = record {
+        size = C .size;
+        best = λ v k. raised-more T _ _ s s′ p h C v (D .best v k);
+        top = top-led e st (onward (r .starting) (E u)) u o s s′ n (p + 1) (many st u) t′ t″ later N C H;
+        ended = ends ∙ (ap (λ (i : ℕ). max i (E u)) (D .ended) ∙ sym (largest-more (at o (r .ending)) p));
+        long = length-set l u y ∙ D .long;
+        sums = λ v k a. getD-set-other l u v y 0 (λ z. omega (arith, ap (place T) z, place-at T p h)) ∙ D .sums v k (omega arith);
+        gain = λ v k a. gain v k a (ℕ-discrete v u);
+        past = λ v k. getD-set-other l u v y 0 (λ z. omega (arith, known, T .vertices)) ∙ D .past v k;
+      }
+        where
+          later : (j : ℕ) → j < many st u → (q : ℕ) × (p + 1 ≤ q) × (q < n) × (nth e st u j ≡ getD o q 0)
+          later j k =
+              let v = nth e st u j in
+              let d = nth-joins T u j known k in
+              let m = well-formed T .to u v d in
+              (place T v, omega (arith, rises T u v d, place-at T p h), place-below T v m, sym (vertex-at T v m))
+
+          gain : (v : ℕ) → v < g .n → place T v < p + 1 → Dec (v ≡ u) → GainOf (asModel g) v (getD (set l u y) v 0)
+          gain v k a (yes z) = rw z (rw (getD-set-same l u y 0 (omega (arith, D .long, known, few T)) ∙ is) gain-found)
+          gain v k a (no z) = rw (getD-set-other l u v y 0 z) (D .gain v k (before (ℕ-discrete (place T v) p)))
+            where
+              before : Dec (place T v ≡ p) → place T v < p
+              before (yes i) = absurd (z (sym (vertex-at T v k) ∙ ap (λ (j : ℕ). getD o j 0) i))
+              before (no i) = omega arith
+
+  pub swept-done : (s : List ℕ) (t : Top) (x : ℕ) (l : List ℕ) → Swept n s t x l → GainsIn (asModel g) l
+  unfolding asModel
+  swept-done s t x l D = record {
+    size = D .long;
+    gain = λ v k. D .gain v k (place-below T v k);
+    past = λ v k. D .past v (omega (arith, T .vertices));
+  }

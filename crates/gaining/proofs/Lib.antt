@@ -1,5 +1,4 @@
 -- What passes each place, and what is left without a vertex's weight:
-pub mod Onward
 pub mod Tops
 pub mod Lefts
 -- The gains:

@@ -1,110 +1,149 @@
--- The largest from a place on, as a pass from the last place to the first finds it; and what passes each place, a vertex taken at a time.
-use mathlib.Core.Path.{_≡_, refl, ap, _∙_}
+-- The largest that a list has from a place on: place by place, past a place, and where the edges of a vertex have raised the list.
+use mathlib.Core.Path.{_≡_, refl, sym, ap, _∙_}
 use mathlib.Core.Bool.{Bool, true, false}
 use mathlib.Core.List.{List}
 use mathlib.Core.Logic.{_⊎_, inl, inr}
-use Prim.Native.Nat.{ℕ, _+_, _-_, _≤_, _<_, max, min}
+use Prim.Native.Nat.{ℕ, _+_, _≤_, _<_, max}
 use native.Mathlib.Omega.{arith}
 use native.Mathlib.Decide.{ℕ-discrete}
-use lib.ListN.{getD, length, set, replicate, length-set}
-use lib.Seq.{getD-set-same, getD-set-other}
-use Rattle.model.specs.Places.{pick, largest}
+use lib.Dec.{eqb}
+use lib.ListN.{getD}
+use borrow.Author.Tests.{lt-ltb, le-ltb, eqb-true, eq-eqb}
+use Rattle.model.specs.Places.{pick}
 use Rattle.model.proofs.Bools.{le-or-lt}
-use Rattle.model.proofs.Sums.{largest-most, largest-more, largest-is}
-use Rattle.model.proofs.Tables.{table-at, zeros}
-use Rattle.summary.specs.Row.{many, goesTo}
-use Rattle.gaining.specs.Passing.{onwardOf, topFrom, at, Carried, overBy, passOf}
+use Rattle.model.proofs.Places.{any-intro, any-elim}
+use Rattle.summary.specs.Row.{nth, goesTo, Told}
+use Rattle.gaining.specs.Passing.{at, higherOf, TopFrom, Led}
+use Rattle.gaining.specs.declared.passing.Top.{Top}
 
-module _ (f : ℕ → ℕ) (n : ℕ) where
-  pub top-none : topFrom f n n ≡ 0
-  unfolding topFrom largest
-  top-none = let z : n - n ≡ 0 = omega arith in rw z refl
+-- what is larger stands, with its vertex
+pub higher-kept : (t : Top) (x v : ℕ) → x ≤ t .most → higherOf t x v ≡ t
+higher-kept t x v l = rw (le-ltb (t .most) x l) refl
 
-  pub top-more : (j p : ℕ) → j ≡ p + 1 → p < n → topFrom f n p ≡ max (topFrom f n j) (f p)
-  unfolding topFrom
-  top-more j p next l =
-      let d : n - p ≡ n - j + 1 = omega arith in
-      let z : n - 1 - (n - j) ≡ p = omega arith in
-      rw d (rw z at (largest-more (λ i. f (n - 1 - i)) (n - j)))
+pub higher-raised : (t : Top) (x v : ℕ) → t .most < x → higherOf t x v ≡ record { most = x; vertex = v }
+higher-raised t x v l = rw (lt-ltb (t .most) x l) refl
 
-  pub top-most : (p q : ℕ) → p ≤ q → q < n → f q ≤ topFrom f n p
-  unfolding topFrom
-  top-most p q a b =
-      let z : n - 1 - (n - 1 - q) ≡ q = omega arith in
-      rw z at (largest-most (λ j. f (n - 1 - j)) (n - p) (n - 1 - q) (omega arith))
+module _ (o l : List ℕ) where
+  pub top-none : (p v : ℕ) → TopFrom o l p p (record { most = 0; vertex = v })
+  top-none p v = record { most = λ q a h. absurd (omega arith); is = inl refl }
 
-  pub top-is : (p : ℕ) → (topFrom f n p ≡ 0) ⊎ ((q : ℕ) × (p ≤ q) × (q < n) × (topFrom f n p ≡ f q))
-  unfolding topFrom
-  top-is p = go (largest-is (λ j. f (n - 1 - j)) (n - p))
+  -- one place more
+  pub top-more : (n p : ℕ) (t r : Top) → p ≤ n → r ≡ higherOf t (at o l n) (getD o n 0) → TopFrom o l n p t → TopFrom o l (n + 1) p r
+  top-more n p t r h is F = go (le-or-lt (at o l n) (t .most))
     where
-      go : (topFrom f n p ≡ 0) ⊎ ((j : ℕ) × (j < n - p) × (topFrom f n p ≡ f (n - 1 - j))) → (topFrom f n p ≡ 0) ⊎ ((q : ℕ) × (p ≤ q) × (q < n) × (topFrom f n p ≡ f q))
-      go (inl z) = inl z
-      go (inr r) = inr (n - 1 - r .0, omega (arith, r .1), omega (arith, r .1), r .2)
+      kept : at o l n ≤ t .most → (q : ℕ) → p ≤ q → q < n + 1 → Dec (q ≡ n) → at o l q ≤ t .most
+      kept a q b m (yes z) = rw z a
+      kept a q b m (no z) = F .most q b (omega arith)
 
-  pub top-within : (c p : ℕ) → ((q : ℕ) → q < n → f q ≤ c) → topFrom f n p ≤ c
-  top-within c p h = go (top-is p)
+      on : (t .most ≡ 0) ⊎ ((q : ℕ) × (p ≤ q) × (q < n) × (t .vertex ≡ getD o q 0) × (t .most ≡ at o l q))
+          → (t .most ≡ 0) ⊎ ((q : ℕ) × (p ≤ q) × (q < n + 1) × (t .vertex ≡ getD o q 0) × (t .most ≡ at o l q))
+      on (inl z) = inl z
+      on (inr x) = inr (x .0, x .1, omega (arith, x .2), x .3, x .4)
+
+      raised : t .most < at o l n → (q : ℕ) → p ≤ q → q < n + 1 → Dec (q ≡ n) → at o l q ≤ at o l n
+      raised a q b m (yes z) = rw z (omega arith)
+      raised a q b m (no z) = omega (arith, F .most q b (omega arith))
+
+      go : (at o l n ≤ t .most) ⊎ (t .most < at o l n) → TopFrom o l (n + 1) p r
+      go (inl a) = rw (is ∙ higher-kept t (at o l n) (getD o n 0) a) (record { most = λ q b m. kept a q b m (ℕ-discrete q n); is = on (F .is) })
+      go (inr a) =
+          rw (is ∙ higher-raised t (at o l n) (getD o n 0) a)
+          (record { most = λ q b m. raised a q b m (ℕ-discrete q n); is = inr (n, h, omega arith, refl, refl) })
+
+  -- past a place, where it is not of the vertex there
+  pub top-past : (n p : ℕ) (t : Top) → (t .vertex ≡ getD o p 0 → ⊥) → TopFrom o l n p t → TopFrom o l n (p + 1) t
+  top-past n p t d F = record { most = λ q a h. F .most q (omega arith) h; is = by (F .is) }
     where
-      go : (topFrom f n p ≡ 0) ⊎ ((q : ℕ) × (p ≤ q) × (q < n) × (topFrom f n p ≡ f q)) → topFrom f n p ≤ c
-      go (inl z) = omega arith
-      go (inr r) = omega (arith, r .3, h (r .0) (r .2))
+      later : (q : ℕ) → p ≤ q → t .vertex ≡ getD o q 0 → Dec (q ≡ p) → p + 1 ≤ q
+      later q a z (yes i) = absurd (d (rw i at z))
+      later q a z (no i) = omega arith
 
-module _ (o l : List ℕ) (b n : ℕ) (m : List ℕ) where
-  pub carried-none : length m ≡ 128 → Carried o l b n n m m
-  carried-none long = record { size = long; raised = λ q a h. absurd (omega arith); before = λ q h. refl; past = λ q h. refl }
+      by : (t .most ≡ 0) ⊎ ((q : ℕ) × (p ≤ q) × (q < n) × (t .vertex ≡ getD o q 0) × (t .most ≡ at o l q))
+          → (t .most ≡ 0) ⊎ ((q : ℕ) × (p + 1 ≤ q) × (q < n) × (t .vertex ≡ getD o q 0) × (t .most ≡ at o l q))
+      by (inl z) = inl z
+      by (inr x) = inr (x .0, later (x .0) (x .1) (x .3) (ℕ-discrete (x .0) p), x .2, x .3, x .4)
 
-  -- one place more, from the last on
-  pub carried-more : (m′ : List ℕ) (j p x : ℕ) → j ≡ p + 1 → j ≤ n → n ≤ 128 → x ≡ max (getD m′ p 0) (b + topFrom (at o l) n j) → Carried o l b j n m m′
-      → Carried o l b p n m (set m′ p x)
-  carried-more m′ j p x next within few is C = record {
-    size = length-set m′ p x ∙ C .size;
-    raised = λ q a h. raised q a h (ℕ-discrete q p);
-    before = λ q h. getD-set-other m′ p q x 0 (λ z. omega arith) ∙ C .before q (omega arith);
-    past = λ q h. getD-set-other m′ p q x 0 (λ z. omega arith) ∙ C .past q h;
-  }
+-- ---- the edges of a vertex
+
+module _ (e st : List ℕ) (b : ℕ → ℕ) (u : ℕ) where
+  pub led-none : (t : Top) → Led e st b u 0 t t
+  led-none t = record { kept = omega arith; most = λ j h. absurd (omega arith); is = inl refl }
+
+  pub led-more : (t r r′ : Top) (k x : ℕ) → x ≡ nth e st u k → r′ ≡ higherOf r (b x) x → Led e st b u k t r → Led e st b u (k + 1) t r′
+  led-more t r r′ k x at is L = go (le-or-lt (b x) (r .most))
     where
-      raised : (q : ℕ) → p ≤ q → q < n → Dec (q ≡ p) → getD (set m′ p x) q 0 ≡ max (getD m q 0) (b + topFrom (at o l) n (q + 1))
-      raised q a h (yes z) =
-          rw (z, ← next)
-          (getD-set-same m′ p x 0 (rw (C .size) (omega arith)) ∙ (is ∙ ap (λ (y : ℕ). max y (b + topFrom (at o l) n j)) (C .before p (omega arith))))
-      raised q a h (no z) = getD-set-other m′ p q x 0 z ∙ C .raised q (omega arith) h
+      same : b (nth e st u k) ≡ b x
+      same = ap b (sym at)
 
-module _ (e st o : List ℕ) (n : ℕ) (en s : List ℕ) where
-  -- what passes each place, of the first t vertices
-  pub record Crossing (t : ℕ) (m : List ℕ) : Type 0 where
-    pub size : length m ≡ 128
-    pub passes : (p : ℕ) → p < n → getD m p 0 ≡ passOf e st o n en s t p
-    pub unused : (p : ℕ) → n ≤ p → getD m p 0 ≡ 0
+      most : (y : ℕ) → r .most ≤ y → b x ≤ y → (j : ℕ) → j < k + 1 → Dec (j ≡ k) → b (nth e st u j) ≤ y
+      most y m h j a (yes z) = rw z (omega (arith, same))
+      most y m h j a (no z) = omega (arith, L .most j (omega arith))
 
-  pub crossing-none : (m : List ℕ) → Carried o s 0 0 n (replicate 128 0) m → Crossing 0 m
-  unfolding largest
-  crossing-none m C = record {
-    size = C .size;
-    passes = λ p h. let z : min 0 p ≡ 0 = omega arith in rw z (omega (arith, C .raised p (omega arith) h, zeros 128 p));
-    unused = λ p h. C .past p h ∙ zeros 128 p;
-  }
+      on : (r ≡ t) ⊎ ((j : ℕ) × (j < k) × (r .vertex ≡ nth e st u j) × (r .most ≡ b (nth e st u j)))
+          → (r ≡ t) ⊎ ((j : ℕ) × (j < k + 1) × (r .vertex ≡ nth e st u j) × (r .most ≡ b (nth e st u j)))
+      on (inl z) = inl z
+      on (inr y) = inr (y .0, omega (arith, y .1), y .2, y .3)
 
-  pub crossing-more : (m m′ : List ℕ) (i : ℕ) → i < n → Crossing i m → Carried o (onwardOf e st s (getD o i 0)) (at o en i) (i + 1) n m m′ → Crossing (i + 1) m′
-  crossing-more m m′ i l X C = record {
-    size = C .size;
-    passes = λ p h. go p h (le-or-lt (i + 1) p);
-    unused = λ p h. C .past p h ∙ X .unused p h;
-  }
+      go : (b x ≤ r .most) ⊎ (r .most < b x) → Led e st b u (k + 1) t r′
+      go (inl a) =
+          rw (is ∙ higher-kept r (b x) x a)
+          (record { kept = L .kept; most = λ j h. most (r .most) (omega arith) a j h (ℕ-discrete j k); is = on (L .is) })
+      go (inr a) =
+          rw (is ∙ higher-raised r (b x) x a)
+          (record {
+            kept = omega (arith, L .kept);
+            most = λ j h. most (b x) (omega arith) (omega arith) j h (ℕ-discrete j k);
+            is = inr (k, omega arith, at, sym same);
+          })
+
+  -- where they go to places from p on, it is the largest from there on again
+  pub top-led : (o l l′ : List ℕ) (n p k : ℕ) (t r : Top) → ((j : ℕ) → j < k → (q : ℕ) × (p ≤ q) × (q < n) × (nth e st u j ≡ getD o q 0))
+      → TopFrom o l n p t → Told e st b u k l l′ → Led e st b u k t r → TopFrom o l′ n p r
+  top-led o l l′ n p k t r later F D L = record { most = most; is = by (L .is) }
     where
-      go : (p : ℕ) → p < n → (i + 1 ≤ p) ⊎ (p < i + 1) → getD m′ p 0 ≡ passOf e st o n en s (i + 1) p
-      go p h (inl a) =
-          let y : min i p ≡ i = omega arith in
-          let z : min (i + 1) p ≡ i + 1 = omega arith in
-          rw z (omega (arith, C .raised p a h, rw y at (X .passes p h), largest-more (overBy e st o n en s p) i))
-      go p h (inr a) =
-          let y : min i p ≡ p = omega arith in
-          let z : min (i + 1) p ≡ p = omega arith in
-          rw z (C .before p a ∙ rw y at (X .passes p h))
+      -- what stands for a vertex has grown, and is no larger than the largest
+      grown : (x : ℕ) (c : Bool) → getD l′ x 0 ≡ pick c (max (getD l x 0) (b x)) (getD l x 0) → getD l x 0 ≤ getD l′ x 0
+      grown x true q = omega arith
+      grown x false q = omega arith
 
-  -- the sums of a vertex's successors are no larger than all of them
-  pub onward-small : (u c : ℕ) → ((v : ℕ) → getD s v 0 ≤ c) → (v : ℕ) → v < 128 → getD (onwardOf e st s u) v 0 ≤ c
-  unfolding onwardOf
-  onward-small u c h v l = rw (table-at (λ x. pick (goesTo e st u (many st u) x) (getD s x 0) 0) 128 v l) (by (goesTo e st u (many st u) v))
-    where
-      by : (b : Bool) → pick b (getD s v 0) 0 ≤ c
-      by true = h v
-      by false = omega arith
+      within : (x : ℕ) → getD l x 0 ≤ t .most → (c : Bool) → goesTo e st u k x ≡ c → getD l′ x 0 ≡ pick c (max (getD l x 0) (b x)) (getD l x 0)
+          → getD l′ x 0 ≤ r .most
+      within x h true z q =
+          let j = any-elim (λ j. eqb (nth e st u j) x) k z in
+          omega (arith, L .kept, L .most (j .0) (j .1), ap b (eqb-true (nth e st u (j .0)) x (j .2)))
+      within x h false z q = omega (arith, L .kept)
+
+      most : (q : ℕ) → p ≤ q → q < n → at o l′ q ≤ r .most
+      most q a h = let x = getD o q 0 in within x (F .most q a h) (goesTo e st u k x) refl (D .at x)
+
+      by : (r ≡ t) ⊎ ((j : ℕ) × (j < k) × (r .vertex ≡ nth e st u j) × (r .most ≡ b (nth e st u j)))
+          → (r .most ≡ 0) ⊎ ((q : ℕ) × (p ≤ q) × (q < n) × (r .vertex ≡ getD o q 0) × (r .most ≡ at o l′ q))
+      by (inl z) = old (F .is)
+        where
+          large : r .most ≡ t .most
+          large = ap (λ (s : Top). s .most) z
+
+          old : (t .most ≡ 0) ⊎ ((q : ℕ) × (p ≤ q) × (q < n) × (t .vertex ≡ getD o q 0) × (t .most ≡ at o l q))
+              → (r .most ≡ 0) ⊎ ((q : ℕ) × (p ≤ q) × (q < n) × (r .vertex ≡ getD o q 0) × (r .most ≡ at o l′ q))
+          old (inl y) = inl (large ∙ y)
+          old (inr y) =
+              let x = getD o (y .0) 0 in
+              inr (
+                y .0,
+                y .1,
+                y .2,
+                ap (λ (s : Top). s .vertex) z ∙ y .3,
+                omega (arith, large, y .4, most (y .0) (y .1) (y .2), grown x (goesTo e st u k x) (D .at x)),
+              )
+      by (inr y) =
+          let q = later (y .0) (y .1) in
+          let x = nth e st u (y .0) in
+          let goes : goesTo e st u k x ≡ true = any-intro (λ j. eqb (nth e st u j) x) k (y .0) (y .1) (eq-eqb x x refl) in
+          let new : getD l′ x 0 ≡ max (getD l x 0) (b x) = rw goes at (D .at x) in
+          inr (
+            q .0,
+            q .1,
+            q .2,
+            y .2 ∙ q .3,
+            omega (arith, y .3, new, ap (λ (z : ℕ). getD l′ z 0) (q .3), most (q .0) (q .1) (q .2)),
+          )

@@ -3,6 +3,7 @@ ghost use mathlib.Core.Path.{_≡_};
 ghost use lib.ListN.{length};
 ghost use Rattle.graph.specs.Model.{asModel};
 ghost use Rattle.reader.specs.Laid.{graphIn, Usable};
+ghost use Rattle.gaining.specs.Gaining.{GainsIn};
 ghost use Rattle.gains.specs.Answers.{GainedIn, AlteredIn};
 use crate::Gained;
 use crate::lent::hand_over;
@@ -13,6 +14,25 @@ use summary::afresh;
 use summary::altered;
 use weights::Measure;
 use weights::weights;
+
+// From the summary made afresh.
+pub(crate) fn table_of<'a>(
+    h: Header,
+    cores: &'a [u8; 10],
+    kind: &'a [u8; 128],
+    wcet: &'a [u32; 128],
+    edge: &'a [u16; 1024],
+    start: &'a [u16; 129],
+    order: &'a [u8; 128],
+) -> [u64; 128]
+    requires { ⌜ Usable h (now cores) (now kind) (now wcet) (now edge) (now start) (now order) ⌝ }
+    ensures { λ r. ⌜ GainsIn (asModel (graphIn h (now (cores .entry)) (now (kind .entry)) (now (wcet .entry)) (now (edge .entry)))) r ⌝ }
+{
+    let n = h.n;
+    let weight = weights(kind, wcet, cores, h.kinds, n, Measure::Scaled);
+    let summary = afresh(edge, start, order, n, &weight);
+    table::gains(edge, start, order, n, &weight, wcet, summary)
+}
 
 pub(crate) fn gains_of<'a>(
     h: Header,
@@ -34,9 +54,7 @@ pub(crate) fn gains_of<'a>(
             place: 0,
         });
     }
-    let weight = weights(kind, wcet, cores, h.kinds, n, Measure::Scaled);
-    let summary = afresh(edge, start, order, n, &weight);
-    let gain = table::gains(edge, start, order, n, &weight, wcet, summary);
+    let gain = table_of(h, cores, kind, wcet, edge, start, order);
     hand_over(&gain, n, out);
     Gained::Vertices(n)
 }

@@ -1,7 +1,10 @@
 // What a rewrite would gain: for each vertex NEW-B-1 less NEW-B-1 of the same graph with that vertex's WCET set to 0. The two entries take the
 // file's bytes; one of them first alters one WCET.
+ghost use Rattle.graph.specs.Model.{AcceptedGraph, asModel};
+ghost use Rattle.gaining.specs.Gaining.{GainsIn};
 ghost use Rattle.gains.specs.Answers.{GainsOf, AlteredOf};
 use graph::Answer;
+use graph::Graph;
 use graph::Refusal;
 
 mod accepted; // accepted.rt: the gains of an accepted graph
@@ -76,4 +79,16 @@ pub fn gains_altered(file: &[u8], vertex: u32, time: u32, out: &mut [u64]) -> Ga
             out,
         ),
     }
+}
+
+// ---- of a graph that was read already
+
+pub fn table(g: Graph) -> [u64; 128]
+    requires { ⌜ AcceptedGraph g ⌝ }
+    ensures { λ r. ⌜ GainsIn (asModel g) r ⌝ }
+{
+    let mut starts = [0u16; 129];
+    let order = reader::along(g, &mut starts);
+    let h = reader::header_of(g);
+    accepted::table_of(h, &g.cores, &g.kind, &g.wcet, &g.edge, &starts, &order)
 }

@@ -90,14 +90,23 @@ fn take(name: &[u8], room: &mut [u8]) -> Input {
     got
 }
 
+// Takes argument k: whether all of it is in the room, and its length.
+pub fn argument(k: usize, room: &mut [u8]) -> Input {
+    let n = os::arg(k, room);
+    Input {
+        good: os::errno() == 0,
+        n,
+    }
+}
+
 // Reads what argument k names. Where that can't be done, it has been said why.
 pub fn read(k: usize, room: &mut [u8]) -> Input {
     let mut name = io::buffer();
-    let n = os::arg(k, &mut name);
-    if os::errno() != 0 {
+    let got = argument(k, &mut name);
+    if !got.good {
         return unread(b"a name");
     }
-    take(&name[..n], room)
+    take(texts::part(&name, 0, got.n), room)
 }
 
 // Whether argument k is standard input.

@@ -14,13 +14,17 @@ const GRAPH: u8 = 3;
 
 const TEXT: u8 = 4;
 
-const HELP: u8 = 5;
+const GAINS: u8 = 5;
 
-const VERSION: u8 = 6;
+const GAINS_ALTERED: u8 = 6;
 
-const FILE: u8 = 7;
+const HELP: u8 = 7;
 
-const UNKNOWN: u8 = 8;
+const VERSION: u8 = 8;
+
+const FILE: u8 = 9;
+
+const UNKNOWN: u8 = 10;
 
 // Which word stands first, where there are as many arguments as it takes, the command's own name among them.
 fn number(word: &[u8], n: usize) -> u8 {
@@ -41,6 +45,15 @@ fn number(word: &[u8], n: usize) -> u8 {
     }
     if texts::equal(word, b"text") {
         return if n == 3 { TEXT } else { UNKNOWN };
+    }
+    if texts::equal(word, b"gains") {
+        return if n == 3 {
+            GAINS
+        } else if n == 5 {
+            GAINS_ALTERED
+        } else {
+            UNKNOWN
+        };
     }
     if n != 2 {
         return UNKNOWN;
@@ -73,6 +86,8 @@ fn answered(word: u8, t: &[u8], names: Names, g: Graph, file: &[u8]) -> u8
         2 => answers::run::timed(t, names, g, file),
         3 => answers::text::file(file),
         4 => answers::text::answer(t, names, g),
+        5 => answers_gains::full(t, names, g),
+        6 => answers_gains::altered(t, names, g, file),
         _ => answers::sheet::answer(t, names, g),
     }
 }

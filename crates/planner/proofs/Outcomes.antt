@@ -6,8 +6,9 @@ use denote.Ref.{now}
 use Rattle.outcome.specs.OneOutcome.{OneOutcome}
 use Rattle.outcome.specs.Stated.{Stated}
 use Rattle.bounds.proofs.Unique.{bounds-unique, path-of-unique}
+use Rattle.gains.proofs.Unique.{gains-of-unique, altered-of-unique}
 use Rattle.schedule.specs.Tick.{tickOf}
-use Rattle.codes.specs.Coded.{codedBounds, codedPath, BoundsCoded, PathCoded}
+use Rattle.codes.specs.Coded.{codedBounds, codedPath, codedGains, BoundsCoded, PathCoded, GainsCoded, AlteredCoded}
 use Rattle.codes.specs.CodedRun.{codedReport}
 use Rattle.codes.specs.declared.PlannerBounds.{PlannerBounds}
 use Rattle.codes.specs.declared.PlannerCount.{PlannerCount}
@@ -19,6 +20,10 @@ use Rattle.planner.proofs.planner_bounds as bounds
 use Rattle.planner.proofs.planner_bounds.Reads as bounds-reads
 use Rattle.planner.proofs.planner_path as path
 use Rattle.planner.proofs.planner_path.Reads as path-reads
+use Rattle.planner.proofs.planner_gains as gains
+use Rattle.planner.proofs.planner_gains.Reads as gains-reads
+use Rattle.planner.proofs.planner_gains_altered as gains-altered
+use Rattle.planner.proofs.planner_gains_altered.Reads as gains-altered-reads
 use Rattle.planner.proofs.planner_start as start
 use Rattle.planner.proofs.planner_start.Reads as start-reads
 use Rattle.planner.proofs.planner_tick as tick
@@ -46,6 +51,20 @@ path-coded-unique p q = let e = path-of-unique (p .of) (q .of) in (p .coded ∙ 
 
 pub planner-path-one : OneOutcome path.ended path-reads.Pre path-reads.Post
 planner-path-one κs a r r′ ws ws′ pre p q = let e = path-coded-unique p q in (e .0, λ i. (tt, (e .1 i, tt)))
+
+gains-coded-unique : {s old : List ℕ} {r r′ : PlannerCount} {new new′ : List ℕ} → GainsCoded s old r new → GainsCoded s old r′ new′
+    → (r ≡ r′) × (new ≡ new′)
+gains-coded-unique p q = let e = gains-of-unique (p .of) (q .of) in (p .coded ∙ ap codedGains (e .0) ∙ sym (q .coded), e .1)
+
+pub planner-gains-one : OneOutcome gains.ended gains-reads.Pre gains-reads.Post
+planner-gains-one κs a r r′ ws ws′ pre p q = let e = gains-coded-unique p q in (e .0, λ i. (tt, (e .1 i, tt)))
+
+altered-coded-unique : {s : List ℕ} {v x : ℕ} {old : List ℕ} {r r′ : PlannerCount} {new new′ : List ℕ} → AlteredCoded s v x old r new → AlteredCoded s v x old r′ new′
+    → (r ≡ r′) × (new ≡ new′)
+altered-coded-unique p q = let e = altered-of-unique (p .of) (q .of) in (p .coded ∙ ap codedGains (e .0) ∙ sym (q .coded), e .1)
+
+pub planner-gains-altered-one : OneOutcome gains-altered.ended gains-altered-reads.Pre gains-altered-reads.Post
+planner-gains-altered-one κs a r r′ ws ws′ pre p q = let e = altered-coded-unique p q in (e .0, λ i. (tt, (tt, (tt, (e .1 i, tt)))))
 
 pub planner-start-one : OneOutcome start.ended start-reads.Pre start-reads.Post
 planner-start-one κs a r r′ ws ws′ pre p q = (p ∙ sym q, refl)

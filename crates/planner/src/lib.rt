@@ -8,7 +8,7 @@ ghost use Rattle.writer.specs.Write.{wroteOf, roomAfter};
 ghost use Rattle.schedule.specs.Start.{startOf};
 ghost use Rattle.schedule.specs.Tick.{tickOf};
 ghost use Rattle.schedule.specs.Whole.{playOf, finishesOf};
-ghost use Rattle.codes.specs.Coded.{codedGraph, codedWrote, BoundsCoded, PathCoded};
+ghost use Rattle.codes.specs.Coded.{codedGraph, codedWrote, BoundsCoded, PathCoded, GainsCoded, AlteredCoded};
 ghost use Rattle.codes.specs.CodedRun.{codedStart, codedReport, codedTick, codedPlay};
 ghost use Rattle.planner.specs.Stepped.{codedStep};
 use codes::PlannerBounds;
@@ -19,6 +19,7 @@ use codes::PlannerMoved;
 use codes::PlannerRun;
 use codes::PlannerTick;
 use codes::coded_bounds;
+use codes::coded_gains;
 use codes::coded_graph;
 use codes::coded_path;
 use codes::coded_play;
@@ -60,6 +61,25 @@ pub extern "C" fn planner_path(file: &[u8], out: &mut [u8]) -> PlannerCount
     ensures { λ r. ⌜ PathCoded (now (file .entry)) (now (out .entry)) r (now (out .exit)) ⌝ }
 {
     coded_path(bounds::path(file, out))
+}
+
+#[no_mangle]
+pub extern "C" fn planner_gains(file: &[u8], out: &mut [u64]) -> PlannerCount
+    ensures { λ r. ⌜ GainsCoded (now (file .entry)) (now (out .entry)) r (now (out .exit)) ⌝ }
+{
+    coded_gains(gains::gains(file, out))
+}
+
+#[no_mangle]
+pub extern "C" fn planner_gains_altered(
+    file: &[u8],
+    vertex: u32,
+    wcet: u32,
+    out: &mut [u64],
+) -> PlannerCount
+    ensures { λ r. ⌜ AlteredCoded (now (file .entry)) vertex wcet (now (out .entry)) r (now (out .exit)) ⌝ }
+{
+    coded_gains(gains::gains_altered(file, vertex, wcet, out))
 }
 
 #[no_mangle]

@@ -15,6 +15,8 @@ use Rattle.print.proofs.lent_bytes as lent-bytes
 use Rattle.print.proofs.lent_bytes.Reads as lent-bytes-reads
 use Rattle.print.proofs.lent_words as lent-words
 use Rattle.print.proofs.lent_words.Reads as lent-words-reads
+use Rattle.print.proofs.lent_longs as lent-longs
+use Rattle.print.proofs.lent_longs.Reads as lent-longs-reads
 use Rattle.print.proofs.bad as bad
 use Rattle.print.proofs.bad.Reads as bad-reads
 
@@ -38,6 +40,9 @@ lent-bytes-one κs a r r′ ws ws′ pre p q = (refl, refl)
 
 pub lent-words-one : OneOutcome lent-words.ended lent-words-reads.Pre lent-words-reads.Post
 lent-words-one κs a r r′ ws ws′ pre p q = (refl, refl)
+
+pub lent-longs-one : OneOutcome lent-longs.ended lent-longs-reads.Pre lent-longs-reads.Post
+lent-longs-one κs a r r′ ws ws′ pre p q = (refl, refl)
 
 pub bad-one : OneOutcome bad.ended bad-reads.Pre bad-reads.Post
 bad-one κs a r r′ ws ws′ pre p q = (refl, refl)

@@ -88,6 +88,15 @@ fn put_words(list: &[u32], out: &mut [u8]) {
     flush(out, filled);
 }
 
+fn put_longs(list: &[u64], out: &mut [u8]) {
+    let n = list.len();
+    let mut filled = 0;
+    for i in 0..n {
+        filled = put_field(out, filled, list[i]);
+    }
+    flush(out, filled);
+}
+
 // The numbers of a list, each with a blank before it.
 pub fn words(list: &[u32]) {
     let mut out = [0u8; 4096];
@@ -105,6 +114,13 @@ pub fn lent_bytes(lent: &[u8]) {
 pub fn lent_words(lent: &[u32]) {
     text(b" :");
     words(lent);
+    text(b"\n");
+}
+
+pub fn lent_longs(lent: &[u64]) {
+    let mut out = [0u8; 4096];
+    text(b" :");
+    put_longs(lent, &mut out);
     text(b"\n");
 }
 

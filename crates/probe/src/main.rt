@@ -36,6 +36,8 @@ fn answer(letter: u8, p: &[u8]) {
         b'W' => probe_files::write_request(p),
         b'B' => probe_bounds::bounds_request(p),
         b'P' => probe_bounds::path_request(p),
+        b'G' => probe_gains::gains_request(p),
+        b'A' => probe_gains::altered_request(p),
         b'S' => probe_runs::start_request(p),
         b'T' => probe_runs::tick_request(p, false),
         b'I' => probe_runs::tick_request(p, true),

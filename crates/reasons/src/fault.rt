@@ -69,6 +69,7 @@ stage * is a second one that none waits for
 * is above the WCET of its stage
 no type is declared
 no stage is declared
+the graph has no stage *
 ";
     worded(row(rows, fault), word)
 }
@@ -135,6 +136,11 @@ pub fn said_kind(k: usize, t: &[u8], of: Names, fault: usize, i: usize) -> bool 
 pub fn said_stage(k: usize, t: &[u8], of: Names, fault: usize, v: usize) -> bool {
     let at = if v < 128 { of.stage[v] } else { 0 };
     placed(k, t, at) & saying(fault, names::of_stage(t, of, v))
+}
+
+// What is wrong with the argument that `plan help` calls so, which has the word.
+pub fn said_argument(called: &[u8], fault: usize, word: &[u8]) -> bool {
+    out::text(called) & out::text(b": ") & saying(fault, word)
 }
 
 // A text of times, named by argument k, that has another number of them than the graph has stages.

@@ -7,6 +7,9 @@ pub fn page() -> bool {
 
   plan FILE              the sheet; for a board text also its path by names
   plan sheet FILE        the same
+  plan gains FILE [STAGE WCET]
+                         what a rewrite of each stage would gain, in parts of
+                         a tick and in whole ticks, the largest gain first
   plan run FILE [TIMES]  a run: its finish, and each stage's finish instant
   plan graph FILE        the graph file of a board text
   plan text FILE         the board text of a graph file
@@ -15,12 +18,14 @@ pub fn page() -> bool {
   plan install DIR       puts the command, the library and the header there
 
 FILE is a graph file or a board text (docs/FILE.md, docs/BOARD.md); - is
-standard input. TIMES is a text of lines NAME TICKS, or of a number for each
-stage; without it each stage takes its WCET.
+standard input. With STAGE, the name or the number of a stage, and WCET, gains
+are those of the graph in which this stage has this WCET. TIMES is a text of
+lines NAME TICKS, or of a number for each stage; without it each stage takes
+its WCET.
 
 Exit status: 0 an answer; 1 the planner says no, and standard output says why:
-the graph is refused, or a text is at fault; 2 trouble, and standard error
-says which.
+the graph is refused, or a text or an argument is at fault; 2 trouble, and
+standard error says which.
 ",
     )
 }

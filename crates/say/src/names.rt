@@ -29,3 +29,8 @@ pub(crate) fn name(name: &[u8], letter: &[u8], i: usize) -> bool {
     }
     out::text(letter) & out::number(i as u64)
 }
+
+// What an answer calls stage v: its name, or its number where it has none.
+pub(crate) fn stage(t: &[u8], names: Names, v: usize) -> bool {
+    name(of_stage(t, names, v), b"", v)
+}

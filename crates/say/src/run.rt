@@ -8,7 +8,7 @@ fn wide(x: u32) -> u64 {
 }
 
 fn stage(t: &[u8], of: Names, v: usize, instant: u32) -> bool {
-    names::name(names::of_stage(t, of, v), b"", v) & out::field(wide(instant)) & out::end()
+    names::stage(t, of, v) & out::field(wide(instant)) & out::end()
 }
 
 pub fn lines(t: &[u8], of: Names, finish: u64, instants: &[u32]) -> bool {

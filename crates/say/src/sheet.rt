@@ -22,17 +22,18 @@ fn wide(v: u8) -> u64 {
     v as u64
 }
 
-fn row(path: &[u8]) -> bool {
-    let mut written = out::text(b"path");
-    for i in 0..path.len() {
-        written = written & out::field(wide(path[i]));
+// A name and vertices.
+fn row(name: &[u8], list: &[u8]) -> bool {
+    let mut written = out::text(name);
+    for i in 0..list.len() {
+        written = written & out::field(wide(list[i]));
     }
     written & out::end()
 }
 
-// The sheet: the bounds of a graph, the graph, and its path.
-pub fn lines(b: Bounded, g: Graph, path: &[u8]) -> bool {
-    counts(g) & figures(b) & row(path)
+// The sheet: the bounds of a graph, the graph, its path, and its vertices by gain.
+pub fn lines(b: Bounded, g: Graph, path: &[u8], ranking: &[u8]) -> bool {
+    counts(g) & figures(b) & row(b"path", path) & row(b"gains", ranking)
 }
 
 fn longer(most: usize, name: &[u8]) -> usize {

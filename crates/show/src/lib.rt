@@ -81,7 +81,18 @@ fn figures(g: Graph)
     line(b"ticks ", b.ticks.0);
 }
 
-// Five lines for an accepted file, else one that says why it is refused. The file is read and judged once. What is printed is not in the contract, since no contract can
+// All vertices, the one whose rewrite would gain most first.
+fn by_gain(g: Graph)
+    requires { ⌜ AcceptedGraph g ⌝ }
+{
+    let gain = gains::table(g);
+    let list = ranks::ranking(&gain, g.n);
+    word(b"gains");
+    vertices(&list, g.n);
+    word(b"\n");
+}
+
+// Six lines for an accepted file, else one that says why it is refused. The file is read and judged once. What is printed is not in the contract, since no contract can
 // speak of what a call of the operating system wrote; the answer is.
 pub fn sheet(file: &[u8]) -> Answer
     ensures { λ r. ⌜ r ≡ readOf (now (file .entry)) .answer ⌝ }
@@ -95,6 +106,7 @@ pub fn sheet(file: &[u8]) -> Answer
             counts(g);
             figures(g);
             path(g);
+            by_gain(g);
         }
     }
     answer

@@ -1,6 +1,6 @@
 -- Why one pass along the order, from its last vertex to its first, finds the sums that start at the marked vertices. The successors of a vertex
 -- stand at later places, where the sums are done, and no later store changes them.
-use mathlib.Core.Path.{_≡_, refl, sym, ap, _∙_}
+use mathlib.Core.Path.{_≡_, sym, ap, _∙_}
 use mathlib.Core.List.{List}
 use mathlib.Core.Logic.{_⊎_, inl, inr}
 use Prim.Native.Nat.{ℕ, _+_, _≤_, _<_}
@@ -10,16 +10,15 @@ use lib.Dec.{eqb}
 use lib.ListN.{getD, length, set, length-set}
 use lib.Seq.{getD-set-same, getD-set-other}
 use borrow.Author.Tests.{eq-eqb, ne-eqb}
-use Rattle.model.specs.Places.{pick, padded}
+use Rattle.model.specs.Places.{pick}
 use Rattle.model.specs.Graph.{Edge}
 use Rattle.model.specs.Summary.{StartingAt}
 use Rattle.model.proofs.Sums.{largest-most, largest-is}
-use Rattle.model.proofs.Tables.{padded-length, padded-at, padded-past}
 use Rattle.model.proofs.Summaries.{starting-step}
 use Rattle.graph.specs.Model.{asModel}
 use Rattle.graph.specs.declared.Graph.{Graph}
 use Rattle.paths.specs.Ahead.{weigh, Weighed}
-use Rattle.summary.specs.Row.{many, nth, mostOver, keptOf}
+use Rattle.summary.specs.Row.{many, nth, mostOver}
 use Rattle.summary.specs.Tables.{Starts, StartsBut}
 use Rattle.summary.proofs.Along.{well-formed, few, vertex, place, place-below, place-at, vertex-at, nth-joins, nth-of, rises, starting-small}
 
@@ -30,23 +29,9 @@ module _ {g : Graph} {e st o : List ℕ} {n : ℕ} {w : List ℕ} (T : Weighed g
     pub kept : (v : ℕ) → v < g .n → getD t v 0 ≡ 0 → StartingAt (asModel g) (weigh w) v (getD s v 0)
     pub past : (v : ℕ) → g .n ≤ v → getD s v 0 ≡ 0
 
-  -- where it begins
-  module _ (old s : List ℕ) (is : s ≡ padded 128 (keptOf w t old) n) where
-    pub backward-kept : StartsBut (asModel g) (weigh w) t old → StartsBut (asModel g) (weigh w) t s
-    unfolding asModel
-    backward-kept K v l z =
-        let q : getD s v 0 ≡ getD old v 0
-        = ap (λ (x : List ℕ). getD x v 0) is ∙ (padded-at 128 (keptOf w t old) n v (omega (arith, T .vertices)) ∙ rw (eq-eqb (getD t v 0) 0 z) refl) in
-        rw q (K v l z)
-
-    pub backward-none : StartsBut (asModel g) (weigh w) t s → Backward s n
-    unfolding asModel
-    backward-none K = record {
-      size = ap length is ∙ padded-length 128 (keptOf w t old) n (omega (arith, T .vertices, few T));
-      done = λ v l h. absurd (omega (arith, place-below T v l));
-      kept = K;
-      past = λ v l. ap (λ (x : List ℕ). getD x v 0) is ∙ padded-past 128 (keptOf w t old) n v (omega (arith, T .vertices));
-    }
+  pub backward-none : (s : List ℕ) → StartsBut (asModel g) (weigh w) t s → Backward s n
+  unfolding asModel
+  backward-none s K = record { size = K .size; done = λ v l h. absurd (omega (arith, place-below T v l)); kept = K .kept; past = K .past }
 
   module _ (s : List ℕ) (j k : ℕ) (next : j ≡ k + 1) (l : j ≤ n) (B : Backward s j) where
     abbrev u : ℕ
@@ -110,10 +95,11 @@ module _ {g : Graph} {e st o : List ℕ} {n : ℕ} {w : List ℕ} (T : Weighed g
               inr (v, d, omega (arith, here, r .2, there v (apart v d)))
 
       sum : StartingAt (asModel g) (weigh w) u (getD (set s u x) u 0)
+      unfolding asModel
       sum = go (ℕ-discrete (getD t u 0) 0)
         where
           go : Dec (getD t u 0 ≡ 0) → StartingAt (asModel g) (weigh w) u (getD (set s u x) u 0)
-          go (yes z) = let q : x ≡ getD s u 0 = rw (eq-eqb (getD t u 0) 0 z) at is in rw (here, q) (B .kept u known z)
+          go (yes z) = let q : x ≡ getD s u 0 = rw (eq-eqb (getD t u 0) 0 z) at is in rw (here ∙ q) (B .kept u known z)
           go (no z) = made (rw (ne-eqb (getD t u 0) 0 z) at is)
 
       pub backward-more : Backward (set s u x) k

@@ -1,34 +1,34 @@
 -- Why one pass along the order finds the sums that end at the marked vertices. The predecessors of a vertex stand at earlier places: when its turn
 -- comes they have all told it their sums, which were done by then, so its own is done as well. Nothing is told to an earlier place, so what
--- is done stays.
+-- is done stays, and what is told to a vertex without a mark is less than its sum.
 use mathlib.Core.Path.{_≡_, refl, sym, ap, _∙_}
-use mathlib.Core.Bool.{Bool, true, false}
+use mathlib.Core.Bool.{true, false}
 use mathlib.Core.List.{List}
 use mathlib.Core.Logic.{_⊎_, inl, inr}
-use Prim.Native.Nat.{ℕ, _+_, _≤_, _<_, max}
+use Prim.Native.Nat.{ℕ, _+_, _≤_, _<_}
 use native.Mathlib.Omega.{arith}
 use native.Mathlib.Decide.{ℕ-discrete}
-use lib.ListN.{getD, length}
+use lib.Dec.{eqb}
+use lib.ListN.{getD, length, set, length-set}
+use lib.Seq.{getD-set-same, getD-set-other}
 use borrow.Author.Tests.{eq-eqb, ne-eqb}
-use Rattle.model.specs.Places.{pick, padded}
+use Rattle.model.specs.Places.{pick}
 use Rattle.model.specs.Graph.{Edge}
 use Rattle.model.specs.Summary.{EndingAt}
 use Rattle.model.proofs.Bools.{clash, cases, le-or-lt}
-use Rattle.model.proofs.Tables.{padded-length, padded-at, padded-past}
-use Rattle.model.proofs.Summaries.{ending-step}
+use Rattle.model.proofs.Summaries.{ending-edge, ending-step}
 use Rattle.graph.specs.Model.{asModel}
 use Rattle.graph.specs.declared.Graph.{Graph}
 use Rattle.paths.specs.Ahead.{weigh, Weighed}
-use Rattle.summary.specs.Row.{many, nth, goesTo, Told, keptOf}
+use Rattle.summary.specs.Row.{many, Told}
 use Rattle.summary.specs.Tables.{Ends, EndsBut}
-use Rattle.summary.proofs.Along.{well-formed, few, vertex, place, place-below, place-at, vertex-at, nth-joins, goes-joins, joins-goes, rises, ending-small}
+use Rattle.summary.proofs.Along.{well-formed, few, vertex, place, place-below, place-at, vertex-at, rises, ending-small}
+use Rattle.summary.proofs.Raised.{told-apart, told-raised, Raised, raised-none, raised-alike, raised-more}
 
 module _ {g : Graph} {e st o : List ℕ} {n : ℕ} {w : List ℕ} (T : Weighed g e st o n w) (t : List ℕ) where
-  -- a marked vertex has its own weight, and was told by the predecessors before place j
-  pub record SoFar (s : List ℕ) (j v : ℕ) : Type 0 where
-    pub own : weigh w v ≤ getD s v 0
-    pub most : (u : ℕ) → Edge (asModel g) u v → place T u < j → getD s u 0 + weigh w v ≤ getD s v 0
-    pub is : (getD s v 0 ≡ weigh w v) ⊎ ((u : ℕ) × Edge (asModel g) u v × (place T u < j) × (getD s v 0 ≡ getD s u 0 + weigh w v))
+  -- what the predecessors before place j have told v: the largest of their sums, or 0
+  abbrev SoFar : List ℕ → ℕ → ℕ → Type 0
+  SoFar s = Raised T (λ u v. getD s u 0) (λ v. 0) s
 
   pub record Forward (s : List ℕ) (j : ℕ) : Type 0 where
     pub size : length s ≡ 128
@@ -37,141 +37,124 @@ module _ {g : Graph} {e st o : List ℕ} {n : ℕ} {w : List ℕ} (T : Weighed g
     pub told : (v : ℕ) → v < g .n → (getD t v 0 ≡ 0 → ⊥) → j ≤ place T v → SoFar s j v
     pub past : (v : ℕ) → g .n ≤ v → getD s v 0 ≡ 0
 
-  -- where it begins
-  module _ (old s : List ℕ) (is : s ≡ padded 128 (keptOf w t old) n) where
-    at : (v : ℕ) → v < g .n → getD s v 0 ≡ keptOf w t old v
-    at v l = ap (λ (x : List ℕ). getD x v 0) is ∙ padded-at 128 (keptOf w t old) n v (omega (arith, T .vertices))
-
-    pub forward-kept : EndsBut (asModel g) (weigh w) t old → EndsBut (asModel g) (weigh w) t s
-    unfolding asModel
-    forward-kept K v l z = let q : getD s v 0 ≡ getD old v 0 = at v l ∙ rw (eq-eqb (getD t v 0) 0 z) refl in rw q (K v l z)
-
-    pub forward-none : EndsBut (asModel g) (weigh w) t s → Forward s 0
-    unfolding asModel
-    forward-none K = record {
-      size = ap length is ∙ padded-length 128 (keptOf w t old) n (omega (arith, T .vertices, few T));
-      done = λ v l h. absurd (omega arith);
-      kept = K;
-      told = λ v l z h. let q : getD s v 0 ≡ weigh w v = at v l ∙ rw (ne-eqb (getD t v 0) 0 z) refl in record {
-        own = omega arith;
-        most = λ u d k. absurd (omega arith);
-        is = inl q;
-      };
-      past = λ v l. ap (λ (x : List ℕ). getD x v 0) is ∙ padded-past 128 (keptOf w t old) n v (omega (arith, T .vertices));
-    }
+  pub forward-none : (s : List ℕ) → EndsBut (asModel g) (weigh w) t s → Forward s 0
+  unfolding asModel
+  forward-none s K = record {
+    size = K .size;
+    done = λ v l h. absurd (omega arith);
+    kept = K .kept;
+    told = λ v l z h. raised-none T _ _ s v (K .cleared v l z);
+    past = K .past;
+  }
 
   module _ (s : List ℕ) (j : ℕ) (l : j < n) (F : Forward s j) where
-    -- the sum of the vertex at place j is done
-    turn : (v : ℕ) → v < g .n → place T v ≡ j → EndingAt (asModel g) (weigh w) v (getD s v 0)
-    unfolding asModel
-    turn v m q = go (ℕ-discrete (getD t v 0) 0)
-      where
-        go : Dec (getD t v 0 ≡ 0) → EndingAt (asModel g) (weigh w) v (getD s v 0)
-        go (yes z) = F .kept v m z
-        go (no z) =
-            let S = F .told v m z (omega arith) in
-            ending-step (well-formed T) (weigh w) (λ u. getD s u 0) v m (S .own) (λ u d. F .done u (well-formed T .from u v d) (omega (arith, rises T u v d)))
-            (λ u d. S .most u d (omega (arith, rises T u v d))) (by (S .is))
-          where
-            by : (getD s v 0 ≡ weigh w v) ⊎ ((u : ℕ) × Edge (asModel g) u v × (place T u < j) × (getD s v 0 ≡ getD s u 0 + weigh w v))
-                → (getD s v 0 ≡ weigh w v) ⊎ ((u : ℕ) × Edge (asModel g) u v × (getD s v 0 ≡ getD s u 0 + weigh w v))
-            by (inl x) = inl x
-            by (inr r) = inr (r .0, r .1, r .3)
-
     abbrev u : ℕ
     u = getD o j 0
 
     known : u < g .n
     known = vertex T j l
 
-    sum : EndingAt (asModel g) (weigh w) u (getD s u 0)
-    sum = turn u known (place-at T j l)
+    before : (x : ℕ) → Edge (asModel g) x u → place T x < j
+    before x d = omega (arith, rises T x u d, place-at T j l)
 
-    pub forward-fits : (k : ℕ) → k < many st u → getD s u 0 + weigh w (nth e st u k) < 18446744073709551616
+    done : (x : ℕ) → Edge (asModel g) x u → EndingAt (asModel g) (weigh w) x (getD s x 0)
     unfolding asModel
-    forward-fits k m =
-        omega (arith, ending-small T sum, T .light (nth e st u k) (well-formed T .to u (nth e st u k) (nth-joins T u k known m)))
+    done x d = F .done x (well-formed T .from x u d) (before x d)
 
-    module _ (s′ : List ℕ) (D : Told e st w t u (many st u) s s′) where
-      -- what the edges of u leave, and what they change
-      apart : (v : ℕ) → (Edge (asModel g) u v → ⊥) → getD s′ v 0 ≡ getD s v 0
-      apart v x = go (cases (goesTo e st u (many st u) v))
-        where
-          go : (goesTo e st u (many st u) v ≡ true) ⊎ (goesTo e st u (many st u) v ≡ false) → getD s′ v 0 ≡ getD s v 0
-          go (inl y) = absurd (x (goes-joins T u v known y))
-          go (inr y) = rw y at (D .at v)
+    so-far : (getD t u 0 ≡ 0 → ⊥) → SoFar s j u
+    so-far z = F .told u known z (omega (arith, place-at T j l))
 
-      unmarked : (v : ℕ) → getD t v 0 ≡ 0 → getD s′ v 0 ≡ getD s v 0
-      unmarked v z = go (goesTo e st u (many st u) v) (rw (eq-eqb (getD t v 0) 0 z) at (D .at v))
-        where
-          go : (b : Bool) → getD s′ v 0 ≡ pick b (getD s v 0) (getD s v 0) → getD s′ v 0 ≡ getD s v 0
-          go true q = q
-          go false q = q
+    pub forward-fits : getD s u 0 + weigh w u < 18446744073709551616
+    unfolding asModel
+    forward-fits = go (ℕ-discrete (getD t u 0) 0)
+      where
+        by : (getD s u 0 ≡ 0) ⊎ ((x : ℕ) × Edge (asModel g) x u × (place T x < j) × (getD s u 0 ≡ getD s x 0))
+            → getD s u 0 + weigh w u < 18446744073709551616
+        by (inl q) = omega (arith, T .light u known)
+        by (inr r) = omega (arith, T .light u known, r .3, ending-small T (done (r .0) (r .1)))
 
-      raised : (v : ℕ) → (getD t v 0 ≡ 0 → ⊥) → Edge (asModel g) u v → getD s′ v 0 ≡ max (getD s v 0) (getD s u 0 + weigh w v)
-      raised v z d = rw (joins-goes T u v d, ne-eqb (getD t v 0) 0 z) at (D .at v)
+        go : Dec (getD t u 0 ≡ 0) → getD s u 0 + weigh w u < 18446744073709551616
+        go (yes z) = omega (arith, T .light u known, ending-small T (F .kept u known z))
+        go (no z) = by (so-far z .is)
 
-      early : (v : ℕ) → place T v ≤ j → getD s′ v 0 ≡ getD s v 0
-      early v h = apart v (λ d. omega (arith, rises T u v d, place-at T j l))
+    module _ (y : ℕ) (is : y ≡ pick (eqb (getD t u 0) 0) (getD s u 0) (getD s u 0 + weigh w u)) where
+      here : getD (set s u y) u 0 ≡ y
+      here = getD-set-same s u y 0 (omega (arith, F .size, known, few T))
 
-      here : (v : ℕ) → v < g .n → place T v ≡ j → v ≡ u
-      here v m q = sym (vertex-at T v m) ∙ ap (λ (i : ℕ). getD o i 0) q
+      there : (v : ℕ) → (v ≡ u → ⊥) → getD (set s u y) v 0 ≡ getD s v 0
+      there v d = getD-set-other s u v y 0 d
 
-      pub forward-more : Forward s′ (j + 1)
+      other : (v : ℕ) → (place T v ≡ j → ⊥) → v ≡ u → ⊥
+      other v d q = d (ap (place T) q ∙ place-at T j l)
+
+      -- the sum of u, from its predecessors'
+      made : SoFar s j u → y ≡ getD s u 0 + weigh w u → EndingAt (asModel g) (weigh w) u (getD (set s u y) u 0)
       unfolding asModel
-      forward-more = record {
-        size = D .size;
-        done = λ v m h. rw (early v (omega arith)) (done v m (ℕ-discrete (place T v) j) h);
-        kept = λ v m z. rw (unmarked v z) (F .kept v m z);
-        told = λ v m z h. told v m z h (cases (asModel g .edge u v));
-        past = λ v h. apart v (λ d. omega (arith, well-formed T .to u v d)) ∙ F .past v h;
-      }
+      made S q =
+          ending-step (well-formed T) (weigh w) (λ x. getD (set s u y) x 0) u known (omega (arith, here)) (λ x d. rw (same x d) (done x d))
+          (λ x d. omega (arith, here, same x d, S .most x d (before x d))) (by (S .is))
         where
-          done : (v : ℕ) → v < g .n → Dec (place T v ≡ j) → place T v < j + 1 → EndingAt (asModel g) (weigh w) v (getD s v 0)
-          done v m (yes q) h = turn v m q
-          done v m (no q) h = F .done v m (omega arith)
+          same : (x : ℕ) → Edge (asModel g) x u → getD (set s u y) x 0 ≡ getD s x 0
+          same x d = there x (other x (λ z. omega (arith, before x d)))
 
-          told : (v : ℕ) → v < g .n → (getD t v 0 ≡ 0 → ⊥) → j + 1 ≤ place T v → (asModel g .edge u v ≡ true) ⊎ (asModel g .edge u v ≡ false) → SoFar s′ (j + 1) v
-          told v m z h (inl d) = record { own = omega (arith, new, S .own); most = λ x c k. most x c k (ℕ-discrete (place T x) j); is = by (le-or-lt (getD s v 0) (getD s u 0 + weigh w v)) (S .is) }
-            where
-              S : SoFar s j v
-              S = F .told v m z (omega arith)
+          by : (getD s u 0 ≡ 0) ⊎ ((x : ℕ) × Edge (asModel g) x u × (place T x < j) × (getD s u 0 ≡ getD s x 0))
+              → (getD (set s u y) u 0 ≡ weigh w u) ⊎ ((x : ℕ) × Edge (asModel g) x u × (getD (set s u y) u 0 ≡ getD (set s u y) x 0 + weigh w u))
+          by (inl z) = inl (omega (arith, here))
+          by (inr r) = inr (r .0, r .1, omega (arith, here, r .3, same (r .0) (r .1)))
 
-              new : getD s′ v 0 ≡ max (getD s v 0) (getD s u 0 + weigh w v)
-              new = raised v z d
+      sum : EndingAt (asModel g) (weigh w) u (getD (set s u y) u 0)
+      unfolding asModel
+      sum = go (ℕ-discrete (getD t u 0) 0)
+        where
+          go : Dec (getD t u 0 ≡ 0) → EndingAt (asModel g) (weigh w) u (getD (set s u y) u 0)
+          go (yes z) = let q : y ≡ getD s u 0 = rw (eq-eqb (getD t u 0) 0 z) at is in rw (here ∙ q) (F .kept u known z)
+          go (no z) = made (so-far z) (rw (ne-eqb (getD t u 0) 0 z) at is)
 
-              most : (x : ℕ) → Edge (asModel g) x v → place T x < j + 1 → Dec (place T x ≡ j) → getD s′ x 0 + weigh w v ≤ getD s′ v 0
-              most x c k (yes q) =
-                  let i = here x (well-formed T .from x v c) q in
-                  omega (arith, new, early x (omega arith), ap (λ (y : ℕ). getD s y 0) i)
-              most x c k (no q) = omega (arith, new, early x (omega arith), S .most x c (omega arith))
+      pub forward-long : length (set s u y) ≡ 128
+      forward-long = length-set s u y ∙ F .size
 
-              by : (getD s v 0 ≤ getD s u 0 + weigh w v) ⊎ (getD s u 0 + weigh w v < getD s v 0)
-                  → (getD s v 0 ≡ weigh w v) ⊎ ((x : ℕ) × Edge (asModel g) x v × (place T x < j) × (getD s v 0 ≡ getD s x 0 + weigh w v))
-                  → (getD s′ v 0 ≡ weigh w v) ⊎ ((x : ℕ) × Edge (asModel g) x v × (place T x < j + 1) × (getD s′ v 0 ≡ getD s′ x 0 + weigh w v))
-              by (inl a) r = let q = place-at T j l in inr (u, d, omega arith, omega (arith, new, early u (omega arith)))
-              by (inr a) (inl q) = inl (omega (arith, new))
-              by (inr a) (inr r) = inr (r .0, r .1, omega (arith, r .2), omega (arith, new, r .3, early (r .0) (omega (arith, r .2))))
-          told v m z h (inr d) = record {
-            own = omega (arith, same, S .own);
-            most = λ x c k. omega (arith, same, early x (omega arith), S .most x c (before x c k (ℕ-discrete (place T x) j)));
-            is = by (S .is);
-          }
-            where
-              S : SoFar s j v
-              S = F .told v m z (omega arith)
+      module _ (s′ : List ℕ) (D : Told e st (λ x. y) u (many st u) (set s u y) s′) where
+        early : (v : ℕ) → place T v ≤ j → getD s′ v 0 ≡ getD (set s u y) v 0
+        early v h = told-apart T known D v (λ d. omega (arith, rises T u v d, place-at T j l))
 
-              same : getD s′ v 0 ≡ getD s v 0
-              same = apart v (λ y. clash y d)
+        over : (v : ℕ) → v < g .n → place T v < j + 1 → Dec (place T v ≡ j) → EndingAt (asModel g) (weigh w) v (getD s′ v 0)
+        over v m h (yes q) = let z : v ≡ u = sym (vertex-at T v m) ∙ ap (λ (i : ℕ). getD o i 0) q in rw (early v (omega arith), z) sum
+        over v m h (no q) = rw (early v (omega arith) ∙ there v (other v q)) (F .done v m (omega arith))
 
-              before : (x : ℕ) → Edge (asModel g) x v → place T x < j + 1 → Dec (place T x ≡ j) → place T x < j
-              before x c k (no q) = omega arith
-              before x c k (yes q) = absurd (clash (rw (here x (well-formed T .from x v c) q) at c) d)
+        -- an edge raises no sum that is known already
+        same : (v : ℕ) → v < g .n → getD t v 0 ≡ 0 → j < place T v → getD s′ v 0 ≡ getD s v 0
+        unfolding asModel
+        same v m z h = go (cases (asModel g .edge u v))
+          where
+            apart : getD (set s u y) v 0 ≡ getD s v 0
+            apart = there v (other v (λ q. omega arith))
 
-              by : (getD s v 0 ≡ weigh w v) ⊎ ((x : ℕ) × Edge (asModel g) x v × (place T x < j) × (getD s v 0 ≡ getD s x 0 + weigh w v))
-                  → (getD s′ v 0 ≡ weigh w v) ⊎ ((x : ℕ) × Edge (asModel g) x v × (place T x < j + 1) × (getD s′ v 0 ≡ getD s′ x 0 + weigh w v))
-              by (inl q) = inl (same ∙ q)
-              by (inr r) = inr (r .0, r .1, omega (arith, r .2), omega (arith, same, r .3, early (r .0) (omega (arith, r .2))))
+            go : (asModel g .edge u v ≡ true) ⊎ (asModel g .edge u v ≡ false) → getD s′ v 0 ≡ getD s v 0
+            go (inl d) = omega (arith, told-raised T known D v d, apart, here, ending-edge d sum (F .kept v m z))
+            go (inr d) = told-apart T known D v (λ q. clash q d) ∙ apart
+
+        pub forward-more : Forward s′ (j + 1)
+        unfolding asModel
+        forward-more = record {
+          size = D .size;
+          done = λ v m h. over v m h (ℕ-discrete (place T v) j);
+          kept = λ v m z. kept v m z (le-or-lt (place T v) j);
+          told = told;
+          past = λ v h. told-apart T known D v (λ d. omega (arith, well-formed T .to u v d)) ∙ (there v (λ q. omega (arith, known)) ∙ F .past v h);
+        }
+          where
+            kept : (v : ℕ) → v < g .n → getD t v 0 ≡ 0 → (place T v ≤ j) ⊎ (j < place T v) → EndingAt (asModel g) (weigh w) v (getD s′ v 0)
+            kept v m z (inl h) = over v m (omega arith) (ℕ-discrete (place T v) j)
+            kept v m z (inr h) = rw (same v m z h) (F .kept v m z)
+
+            told : (v : ℕ) → v < g .n → (getD t v 0 ≡ 0 → ⊥) → j + 1 ≤ place T v → SoFar s′ (j + 1) v
+            told v m z h =
+                let r : List ℕ = set s u y in
+                let D′ : Told e st (λ x. getD r u 0) u (many st u) r s′ = record { size = D .size; at = λ x. rw here (D .at x) } in
+                raised-alike T (λ x z. getD r x 0) (λ z. 0) (λ x z. getD s′ x 0) s′ s′ (j + 1) v refl (λ x k. sym (early x (omega arith)))
+                (raised-more T (λ x z. getD r x 0) (λ z. 0) r s′ j l D′ v
+                (raised-alike T (λ x z. getD s x 0) (λ z. 0) (λ x z. getD r x 0) s r j v (sym (there v (other v (λ z. omega arith))))
+                (λ x k. sym (there x (other x (λ z. omega arith)))) (F .told v m z (omega arith))))
 
   pub forward-done : (s : List ℕ) → Forward s n → Ends (asModel g) (weigh w) s
   unfolding asModel

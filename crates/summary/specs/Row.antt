@@ -1,7 +1,6 @@
 -- For our own layers alone: no contract for callers and no claim cites this file.
 --
--- The edges of one vertex u, in an edge list e with the starts st of the vertices' edges, and what is done along them. Only private contracts
--- cite this file.
+-- The edges of one vertex u, in an edge list e with the starts st of the vertices' edges, and what is done along them.
 --
 --   many st u                 how many edges u has
 --   nth e st u k              where the k-th of them goes
@@ -9,10 +8,7 @@
 --   mostOver e st s u k       the largest in the list s of the vertices that the first k of them go to, or 0
 --   Span st u                 the edges of u stand in the list
 --   Row e st u                the same, and they go to vertices
---   raisedBy t old new        old where the mark t is 0, else the larger one
---   Told e st w t u k s s′    the sums s, after the first k edges of u have raised those of the marked vertices that they go to, t being the
---                             marks: to the sum of u and the vertex's own weight, in the list w
---   keptOf w t s u            the sum of u in the list s where it is not marked, else its own weight
+--   Told e st b u k s s′      the list s, after the first k edges of u have raised what stands for each vertex x that they go to: to b x
 use mathlib.Core.Path.{_≡_}
 use mathlib.Core.Bool.{Bool}
 use mathlib.Core.List.{List}
@@ -21,7 +17,6 @@ use lib.Dec.{eqb}
 use lib.ListN.{getD, length}
 use Rattle.model.specs.Places.{pick, any, largest}
 use Rattle.starts.specs.Starts.{leadsTo}
-use Rattle.paths.specs.Ahead.{weigh}
 
 abbrev pub many : List ℕ → ℕ → ℕ
 many st u = getD st (u + 1) 0 - getD st u 0
@@ -44,12 +39,6 @@ pub record Row (e st : List ℕ) (u : ℕ) : Type 0 where
   pub span : Span st u
   pub ends : (k : ℕ) → k < many st u → nth e st u k < 128
 
-abbrev pub raisedBy : ℕ → ℕ → ℕ → ℕ
-raisedBy t old new = pick (eqb t 0) old (max old new)
-
-pub record Told (e st w t : List ℕ) (u k : ℕ) (s s′ : List ℕ) : Type 0 where
+pub record Told (e st : List ℕ) (b : ℕ → ℕ) (u k : ℕ) (s s′ : List ℕ) : Type 0 where
   pub size : length s′ ≡ 128
-  pub at : (x : ℕ) → getD s′ x 0 ≡ pick (goesTo e st u k x) (raisedBy (getD t x 0) (getD s x 0) (getD s u 0 + weigh w x)) (getD s x 0)
-
-abbrev pub keptOf : List ℕ → List ℕ → List ℕ → ℕ → ℕ
-keptOf w t s u = pick (eqb (getD t u 0) 0) (getD s u 0) (weigh w u)
+  pub at : (x : ℕ) → getD s′ x 0 ≡ pick (goesTo e st u k x) (max (getD s x 0) (b x)) (getD s x 0)

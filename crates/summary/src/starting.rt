@@ -9,7 +9,6 @@ ghost use Rattle.graph.specs.Model.{asModel};
 ghost use Rattle.paths.specs.Ahead.{weigh, Weighed};
 ghost use Rattle.summary.specs.Row as row;
 ghost use Rattle.summary.specs.Tables.{Starts, StartsBut};
-use super::ending::kept;
 use super::ending::larger;
 use super::row::many;
 use super::row::nth;
@@ -34,7 +33,7 @@ fn sum(
     edge: &[u16; 1024],
     start: &[u16; 129],
     weight: &[u64; 128],
-    mark: &[u64; 128],
+    mark: &[u8; 128],
     sums: &[u64; 128],
     u: usize,
 ) -> u64
@@ -56,18 +55,16 @@ pub(crate) fn starting(
     order: &[u8; 128],
     n: usize,
     weight: &[u64; 128],
-    mark: &[u64; 128],
-    old: [u64; 128],
-) -> [u64; 128]
-    requires { ⌜ ((g : Graph) × Weighed g (now edge) (now start) (now order) n (now weight) × StartsBut (asModel g) (weigh (now weight)) (now mark) old) ⌝ }
-    ensures { λ r. ⌜ ((g : Graph) → Weighed g (now (edge .entry)) (now (start .entry)) (now (order .entry)) n (now (weight .entry)) → StartsBut (asModel g) (weigh (now (weight .entry))) (now (mark .entry)) old → Starts (asModel g) (weigh (now (weight .entry))) r) ⌝ }
+    mark: &[u8; 128],
+    sums: &mut [u64; 128],
+)
+    requires { ⌜ ((g : Graph) × Weighed g (now edge) (now start) (now order) n (now weight) × StartsBut (asModel g) (weigh (now weight)) (now mark) (now sums)) ⌝ }
+    ensures { λ r. ⌜ ((g : Graph) → Weighed g (now (edge .entry)) (now (start .entry)) (now (order .entry)) n (now (weight .entry)) → StartsBut (asModel g) (weigh (now (weight .entry))) (now (mark .entry)) (now (sums .entry)) → Starts (asModel g) (weigh (now (weight .entry))) (now (sums .exit))) ⌝ }
 {
-    let mut sums = kept(weight, mark, n, old);
     let mut j = n;
     while 0 < j {
         j -= 1;
         let u = order[j] as usize;
-        sums[u] = sum(edge, start, weight, mark, &sums, u);
+        sums[u] = sum(edge, start, weight, mark, sums, u);
     }
-    sums
 }

@@ -4,10 +4,13 @@ ghost use Prim.Native.Nat.{_+_, _-_, _*_, _≤_, min};
 ghost use lib.ListN.{length};
 ghost use Rattle.wire.specs.Payload.{twoBytes, fourBytes, listAt, numberAt, Within, laidIn, laidOver};
 
-// Before a call each byte of a lent list is A5 hex, so an untouched place shows 165, and one of 32 bits 2779096485.
+// Before a call each byte of a lent list is A5 hex, so an untouched place shows 165, one of 32 bits 2779096485, and one of 64 bits
+// 11936128518282651045.
 pub const PRESET: u8 = 0xA5;
 
 pub const PRESET_WORD: u32 = 0xA5A5A5A5;
+
+pub const PRESET_LONG: u64 = 0xA5A5A5A5A5A5A5A5;
 
 // Where the bytes of a list stand in the payload; `good` is false where the payload has no list there.
 pub struct Part {

@@ -36,13 +36,16 @@ figures-requires c κs = accepted (c .before .before)
 path-requires : tie.Need-path-requires
 path-requires c κs = accepted (c .before .before .before)
 
+by-gain-requires : tie.Need-by-gain-requires
+by-gain-requires c κs = accepted (c .before .before .before .before)
+
 returns : tie.Need-returns
 returns c =
     sym (c .before .before .answer .given .1)
     ∙ ap (λ (t : Taken). t .answer) (c .before .before .before .before .read .ensures)
 
 returns-2 : tie.Need-returns-2
-returns-2 c = ap (λ (t : Taken). t .answer) (c .before .before .before .before .before .before .read .ensures)
+returns-2 c = ap (λ (t : Taken). t .answer) (c .before .before .before .before .before .before .before .read .ensures)
 
 pub sheet-spec : {M : Type 1} → statement M
 sheet-spec =
@@ -55,5 +58,6 @@ sheet-spec =
     counts-requires
     figures-requires
     path-requires
+    by-gain-requires
     returns
     returns-2)

@@ -1,31 +1,50 @@
 -- Those are marked that the changed weight touches.
-use native.Mathlib.Omega.{arith}
-use Rattle.graph.specs.declared.Graph.{Graph}
-use Rattle.summary.specs.Tables.{Renewable, Altering}
-use Rattle.summary.proofs.Along.{few}
-use Rattle.summary.proofs.Renewing.{only-weighed, renewable-touched}
+use Rattle.summary.proofs.Renewing.{tables, ends-touched, starts-touched}
+use borrow.Author.Needs.{needs}
 use Rattle.summary.proofs.altered.Statement.{statement}
 use Rattle.summary.proofs.altered.Tie as tie
 
-only-at-requires : tie.Need-only-at-requires
-only-at-requires c κs = let A = c .pre .1 in omega (arith, A .vertex, few (A .weighed))
+ahead-requires : tie.Need-ahead-requires
+ahead-requires c κs = search needs
 
-afresh-requires : tie.Need-afresh-requires
-afresh-requires c κs = let p = c .before .before .pre in (p .0, rw (c .before .only-at .ensures) (only-weighed (p .1)))
+clear-requires : tie.Need-clear-requires
+clear-requires c κs = search needs
 
--- what is marked, of any graph that the lists are of
-touched : (c : tie.After-afresh) (g : Graph)
-    → Altering g (c .before .before .before .args .edge .now) (c .before .before .before .args .start .now) (c .before .before .before .args .order .now) (c .before .before .before .args .n) (c .before .before .before .args .weight .now) (c .before .before .before .args .old) (c .before .before .before .args .v)
-    → Renewable g (c .before .before .before .args .edge .now) (c .before .before .before .args .start .now) (c .before .before .before .args .order .now) (c .before .before .before .args .n) (c .before .before .before .args .weight .now) (c .afresh .result) (c .before .before .before .args .old)
-touched c g A =
-    let q = c .before .before .only-at .ensures in
-    renewable-touched A (rw q at (c .afresh .ensures g (rw q (only-weighed A))))
+ending-requires : tie.Need-ending-requires
+ending-requires c κs =
+    let d = c .before .before in
+    let a = d .before .before .before in
+    let p = a .before .pre in
+    let T = p .1 .weighed in
+    (p .0, T, ends-touched (p .1) _ (a .ahead .ensures (p .0) _ T) (d .clear .ensures))
 
-renewed-requires : tie.Need-renewed-requires
-renewed-requires c κs = let p = c .before .before .before .pre in (p .0, touched c (p .0) (p .1))
+behind-requires : tie.Need-behind-requires
+behind-requires c κs = search needs
+
+starting-requires : tie.Need-starting-requires
+starting-requires c κs =
+    let b = c .before .before in
+    let p = b .before .before .before .before .before .before .before .before .pre in
+    let T = p .1 .weighed in
+    (p .0, T, starts-touched (p .1) _ (b .behind .ensures (p .0) _ T))
 
 returns : tie.Need-returns
-returns c g A = c .renewed .ensures g (touched (c .before) g A)
+returns c g A =
+    let b = c .before .before .before in
+    let e = b .before in
+    let d = e .before .before .before in
+    let a = d .before .before .before in
+    let T = A .weighed in
+    tables (e .ending .ensures g T (ends-touched A _ (a .ahead .ensures g _ T) (d .clear .ensures)))
+    (c .starting .ensures g T (starts-touched A _ (b .behind .ensures g _ T)))
 
 pub altered-spec : {M : Type 1} → statement M
-altered-spec = tie.close (tie.spec only-at-requires afresh-requires renewed-requires returns)
+altered-spec =
+    tie.close
+    (tie.spec
+    ahead-requires
+    clear-requires
+    ending-requires
+    behind-requires
+    starting-requires
+    returns)

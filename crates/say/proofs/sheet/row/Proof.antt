@@ -6,13 +6,10 @@ use Rattle.say.proofs.sheet.row.Statement.{statement}
 use Rattle.say.proofs.sheet.row.Tie as tie
 
 abbrev Inv-loop : tie.InvT-loop
-Inv-loop path written₀ i₀ i-end written i = (i-end ≡ length path) × (i ≤ i-end)
+Inv-loop name list written₀ i₀ i-end written i = (i-end ≡ length list) × (i ≤ i-end)
 
 abbrev μ-loop : tie.MeasureT-loop
-μ-loop path written₀ i₀ i-end written i = i-end - i
-
-slice-aggregate-text : tie.Need-slice-aggregate-text Inv-loop μ-loop
-slice-aggregate-text c = search needs
+μ-loop name list written₀ i₀ i-end written i = i-end - i
 
 text-requires : tie.Need-text-requires Inv-loop μ-loop
 text-requires c κs = search needs
@@ -50,7 +47,6 @@ row-spec =
     (tie.spec
     Inv-loop
     μ-loop
-    slice-aggregate-text
     text-requires
     loop-holds
     shared-slice-read-wide

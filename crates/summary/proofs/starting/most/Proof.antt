@@ -1,6 +1,6 @@
 -- `most` is the largest of the first k successors' sums.
-use mathlib.Core.Path.{_≡_, refl, ap, _∙_}
-use Prim.Native.Nat.{_-_, _≤_}
+use mathlib.Core.Path.{_≡_, refl}
+use Prim.Native.Nat.{_-_, _≤_, max}
 use native.Mathlib.Omega.{arith}
 use Rattle.model.specs.Places.{largest}
 use Rattle.summary.specs.Row.{many, mostOver}
@@ -10,7 +10,7 @@ use Rattle.summary.proofs.starting.most.Statement.{statement}
 use Rattle.summary.proofs.starting.most.Tie as tie
 
 abbrev Inv-loop : tie.InvT-loop
-Inv-loop edge start sums u count most₀ k₀ most k = (k ≤ many start u) × (most ≡ mostOver edge start sums u k)
+Inv-loop edge start sums u count most₀ k₀ most k = (k ≤ many start u) × (most ≡ max 0 (mostOver edge start sums u k))
 
 abbrev μ-loop : tie.MeasureT-loop
 μ-loop edge start sums u count most₀ k₀ most k = many start u - k
@@ -45,13 +45,13 @@ loop-again c =
     let t = c .before .before in
     let l = t .before .before .loop in
     let a = t .before .before .before .before .args in
-    (omega arith, most-more (a .edge .now) (a .start .now) (a .u) (a .sums .now) (l .k) (t .nth .result) (l .most) (c .larger .result) (t .nth .ensures .0) (c .larger .ensures) (l .inv .1))
+    (omega arith, most-more (a .edge .now) (a .start .now) (a .u) (a .sums .now) 0 (l .k) (t .nth .result) (l .most) (c .larger .result) (t .nth .ensures .0) (c .larger .ensures) (l .inv .1))
 
 returns : tie.Need-returns Inv-loop μ-loop
 returns c =
     let a = c .before .before .before .args in
     let e : c .before .loop .k ≡ many (a .start .now) (a .u) = omega (arith, c .before .before .many .ensures) in
-    c .before .loop .inv .1 ∙ ap (mostOver (a .edge .now) (a .start .now) (a .sums .now) (a .u)) e
+    let q = rw e at (c .before .loop .inv .1) in omega (arith, q)
 
 pub most-spec : {M : Type 1} → statement M
 most-spec =

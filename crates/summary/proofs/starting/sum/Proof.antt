@@ -6,9 +6,6 @@ use borrow.Author.Needs.{needs}
 use Rattle.summary.proofs.starting.sum.Statement.{statement}
 use Rattle.summary.proofs.starting.sum.Tie as tie
 
-mul-if1 : tie.Need-mul-if1
-mul-if1 c = search needs
-
 element-copy-out-if1 : tie.Need-element-copy-out-if1
 element-copy-out-if1 c = search needs
 
@@ -40,7 +37,6 @@ pub sum-spec : {M : Type 1} → statement M
 sum-spec =
     tie.close
     (tie.spec
-    mul-if1
     element-copy-out-if1
     mul-result
     element-copy-out-result

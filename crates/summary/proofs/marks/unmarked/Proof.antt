@@ -1,8 +1,8 @@
 -- The mark is 0, or not.
 use mathlib.Core.Path.{refl}
 use borrow.Author.Tests.{eq-eqb, ne-eqb}
-use Rattle.summary.proofs.ending.unmarked.Statement.{statement}
-use Rattle.summary.proofs.ending.unmarked.Tie as tie
+use Rattle.summary.proofs.marks.unmarked.Statement.{statement}
+use Rattle.summary.proofs.marks.unmarked.Tie as tie
 
 returns : tie.Need-returns
 returns c = rw (eq-eqb _ 0 (c .if1 .taken)) refl
