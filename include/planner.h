@@ -148,7 +148,7 @@ PlannerCount planner_write(const uint8_t *cores, size_t cores_length, const uint
                            size_t wcets_length, const uint16_t *edges, size_t edges_length, uint8_t *out, size_t out_length);
 
 /* The bounds OLD-B and NEW-B-1 of a file's graph. No work-conserving schedule of it ends after tick `ticks`, whatever execution times up to
-   the WCETs its vertices take. Refuses with 1 to 12. */
+   the WCETs its vertices take. Cores of a type that no vertex has count for nothing. Refuses with 1 to 12. */
 PlannerBounds planner_bounds(const uint8_t *file, size_t file_length);
 
 /* The path that gives NEW-B-1: its vertices, from source to sink, into `out`, and how many they are. Refuses with 1 to 12, then 15 (`out`

@@ -34,6 +34,21 @@ pub fn case_a() -> Lists {
     }
 }
 
+/// Order 2's own example: case A with sixteen cores that no vertex can use.
+pub fn unused_cores() -> Lists {
+    Lists { cores: vec![2, 3, 16], ..case_a() }
+}
+
+/// The same with a vertex of WCET 0 that has their type, between 0 and 3.
+pub fn cores_for_no_time() -> Lists {
+    Lists {
+        kinds: vec![0, 1, 0, 1, 2],
+        wcets: vec![4, 9, 6, 3, 0],
+        edges: [(0, 1), (0, 2), (0, 4), (1, 3), (2, 3), (4, 3)].map(|(u, v)| edge(u, v)).to_vec(),
+        ..unused_cores()
+    }
+}
+
 /// Case D: two types of one core, so that all scaled weights are 0.
 pub fn case_d() -> Lists {
     Lists {
@@ -86,6 +101,8 @@ fn worked_cases() -> Vec<Vec<u8>> {
         two_longest_paths(),
         type_of_one_core(),
         middle_of_no_time(),
+        unused_cores(),
+        cores_for_no_time(),
     ];
     cases.iter().map(|lists| file_of_records(&records_of(lists))).collect()
 }

@@ -35,9 +35,10 @@ pub fn of(random: &mut Random, n: usize, most_wcet: u32) -> Graph {
     let kinds = random.pick(&[1, 1, 2, 2, 3, 4, MOST_KINDS]);
     let extra = random.pick(&[0, 0, n / 2, 2 * n, 6 * n, 4 * MOST_EDGES]);
     let layout = layout(random, n, MOST_EDGES, extra);
+    let (cores, used) = board(random, kinds);
     Graph {
-        cores: cores(random, kinds),
-        kinds: kinds_of_vertices(random, kinds, n),
+        cores,
+        kinds: kinds_of_vertices(random, &used, n),
         wcets: wcets(random, n, most_wcet),
         edges: numbered(random, n, &layout),
     }
@@ -49,9 +50,10 @@ pub fn exactly(random: &mut Random, kinds: usize, n: usize, edges: usize) -> Gra
     while layout.len() < edges {
         layout.extend(upward(random, n));
     }
+    let (cores, used) = board(random, kinds);
     Graph {
-        cores: cores(random, kinds),
-        kinds: kinds_of_vertices(random, kinds, n),
+        cores,
+        kinds: kinds_of_vertices(random, &used, n),
         wcets: wcets(random, n, MOST_WCET),
         edges: numbered(random, n, &layout),
     }
@@ -71,8 +73,9 @@ pub fn chain(n: usize, cores: u8, wcet: u32) -> Graph {
 /// vertices in another order. Now and then a branch is shorter than its twins by a tick, or an edge leads past a joint.
 pub fn twins(random: &mut Random) -> Graph {
     let kinds = random.between(1, 4);
+    let (cores, used) = board(random, kinds);
     let most = random.pick(&[1, 4, 1_000, MOST_WCET]);
-    let any_vertex = |random: &mut Random| (random.below(kinds) as u8, random.between(0, most as usize) as u32);
+    let any_vertex = |random: &mut Random| (random.pick(&used), random.between(0, most as usize) as u32);
     let mut vertices = vec![any_vertex(random)];
     let mut layout = BTreeSet::new();
     for _ in 0..random.between(1, 4) {
@@ -101,7 +104,7 @@ pub fn twins(random: &mut Random) -> Graph {
     let mut of_number = vec![(0, 0); vertices.len()];
     vertices.iter().zip(&number).for_each(|(&vertex, &v)| of_number[v as usize] = vertex);
     Graph {
-        cores: cores(random, kinds),
+        cores,
         kinds: of_number.iter().map(|&(kind, _)| kind).collect(),
         wcets: of_number.iter().map(|&(_, wcet)| wcet).collect(),
         edges: edges_between(&number, &layout),
@@ -159,15 +162,27 @@ fn edges_between(number: &[u8], layout: &BTreeSet<(usize, usize)>) -> Vec<(u8, u
     edges
 }
 
-fn cores(random: &mut Random, kinds: usize) -> Vec<u8> {
+/// The cores of each kind, and the kinds that vertices may have. The others are none, one, all but one or any number of
+/// them, wherever they stand; every other time one of them has the most cores that a kind can have.
+fn board(random: &mut Random, kinds: usize) -> (Vec<u8>, Vec<u8>) {
     let most = random.pick(&[1, 2, 3, MOST_CORES, MOST_CORES]);
-    (0..kinds).map(|_| random.between(1, most as usize) as u8).collect()
+    let mut cores: Vec<u8> = (0..kinds).map(|_| random.between(1, most as usize) as u8).collect();
+    let any = random.below(kinds);
+    let many = random.pick(&[0, 1.min(kinds - 1), kinds - 1, any]);
+    let mut used: Vec<u8> = (0..kinds as u8).collect();
+    random.shuffle(&mut used);
+    let unused = used.split_off(kinds - many);
+    if !unused.is_empty() && random.one_in(2) {
+        cores[unused[0] as usize] = MOST_CORES;
+    }
+    (cores, used)
 }
 
-fn kinds_of_vertices(random: &mut Random, kinds: usize, n: usize) -> Vec<u8> {
-    // some declared kinds stay without a vertex
-    let used = random.between(1, kinds);
-    (0..n).map(|_| random.below(used) as u8).collect()
+/// Each of the kinds that are used has a vertex, where there are enough.
+fn kinds_of_vertices(random: &mut Random, used: &[u8], n: usize) -> Vec<u8> {
+    let mut kinds: Vec<u8> = (0..n).map(|v| used.get(v).copied().unwrap_or_else(|| random.pick(used))).collect();
+    random.shuffle(&mut kinds);
+    kinds
 }
 
 fn wcets(random: &mut Random, n: usize, most: u32) -> Vec<u32> {

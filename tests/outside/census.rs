@@ -6,6 +6,7 @@ use crate::crosscheck;
 use crate::generate::request::Request;
 use crate::generate::stream::Stream;
 use crate::options::Options;
+use crate::reference::graph::Graph;
 use crate::reference::reader::read;
 use std::collections::BTreeMap;
 
@@ -25,14 +26,49 @@ const POSSIBLE: [(char, &str, &[u32]); 11] = [
     ('-', "bad", &[]),
 ];
 
+/// The boards on which Mmax can be taken wrongly: each has to be asked for its bounds. A kind is idle where all vertices
+/// that have it have WCET 0.
+const BOARDS: [(&str, fn(&Graph) -> bool); 5] = [
+    ("every type used", |g| unused(g) == 0 && g.cores.len() > 1),
+    ("one unused", |g| unused(g) == 1),
+    ("all but one unused", |g| unused(g) > 1 && unused(g) + 1 == g.cores.len()),
+    ("the most cores unused", |g| most_cores(g, |_| true) > most_cores(g, |s| g.is_used(s))),
+    ("the most cores idle", |g| (1..most_cores(g, |s| g.is_used(s))).contains(&most_cores(g, |s| is_busy(g, s)))),
+];
+
+fn is_busy(graph: &Graph, kind: usize) -> bool {
+    (0..graph.vertices()).any(|v| graph.kinds[v] as usize == kind && graph.wcets[v] > 0)
+}
+
+fn unused(graph: &Graph) -> usize {
+    (0..graph.cores.len()).filter(|&s| !graph.is_used(s)).count()
+}
+
+/// The most of the kinds that pass, or 0 where none does.
+fn most_cores(graph: &Graph, passes: impl Fn(usize) -> bool) -> u8 {
+    (0..graph.cores.len()).filter(|&s| passes(s)).map(|s| graph.cores[s]).max().unwrap_or(0)
+}
+
 pub fn own_requests(options: &Options) -> bool {
     let stream = Stream::new(options.seed);
     let mut table: BTreeMap<(char, String), u64> = BTreeMap::new();
+    let mut boards = [0; BOARDS.len()];
     for place in 0..options.count {
-        *table.entry(cell(&stream.request(place))).or_default() += 1;
+        let request = stream.request(place);
+        let cell = cell(&request);
+        if cell.1 == "old" {
+            let graph = read(request.first_list().unwrap()).unwrap();
+            BOARDS.iter().zip(&mut boards).for_each(|((_, is), many)| *many += is(&graph) as u64);
+        }
+        *table.entry(cell).or_default() += 1;
     }
     print_table(&table);
+    let asked: Vec<String> = BOARDS.iter().zip(boards).map(|((name, _), many)| format!("{name} {many}")).collect();
+    println!("boards: {}", asked.join(", "));
     let mut faults = missing_and_impossible(&table);
+    faults.extend(
+        BOARDS.iter().zip(boards).filter(|(_, many)| *many == 0).map(|((name, _), _)| format!("no board has {name}")),
+    );
     faults.extend(crosscheck::faults(options));
     if !(0..24).all(|place| answers(&cut_input(options.seed, place)).ends_with("bad request\n")) {
         faults.push("an input that ends inside a request must end with `bad request`".to_string());

@@ -4,7 +4,8 @@
 
 use crate::compare::hex;
 use crate::generate::altered;
-use crate::generate::catalogue::{case_a, case_d, case_f, middle_of_no_time, two_longest_paths, type_of_one_core};
+use crate::generate::catalogue::{case_a, case_d, case_f, cores_for_no_time, unused_cores};
+use crate::generate::catalogue::{middle_of_no_time, two_longest_paths, type_of_one_core};
 use crate::generate::faults::file_with;
 use crate::generate::graphs::{of, to_be_damaged, twins};
 use crate::generate::lists::{edge, file_of as file_of_records, lists_of, records_of};
@@ -13,7 +14,7 @@ use crate::generate::runs::times;
 use crate::options::Options;
 use crate::reference::bounds::{bounds, least_path, Bounds};
 use crate::reference::gains::{gains, gains_altered, gains_of, ranking, with_wcet};
-use crate::reference::graph::{Graph, MOST_WCET, PARTS_IN_A_TICK, RECORD};
+use crate::reference::graph::{Graph, MOST_CORES, MOST_WCET, PARTS_IN_A_TICK, RECORD};
 use crate::reference::reader::read;
 use crate::reference::record::finished;
 use crate::reference::refusal::Refusal;
@@ -40,6 +41,7 @@ pub fn faults(options: &Options) -> Vec<String> {
         let graph = of(random, n, 12);
         let same = round_trip_agrees(&graph)
             && paths_agree(&graph)
+            && unused_agree(&graph)
             && gains_agree(&graph)
             && alteration_agrees(random, &graph)
             && runs_agree(random, &graph);
@@ -50,7 +52,9 @@ pub fn faults(options: &Options) -> Vec<String> {
     for place in 0..300 {
         let random = &mut Random::new(options.seed ^ 0x7715, place);
         let graph = twins(random);
-        if !(paths_agree(&graph) && gains_agree(&graph) && alteration_agrees(random, &graph)) {
+        let same =
+            paths_agree(&graph) && unused_agree(&graph) && gains_agree(&graph) && alteration_agrees(random, &graph);
+        if !same {
             faults.push(format!("two ways of the reference differ on {graph:?}"));
         }
     }
@@ -88,13 +92,27 @@ fn paths_agree(graph: &Graph) -> bool {
     let scaled: Vec<u128> = paths.iter().map(|p| scaled_sum(graph, p)).collect();
     let most = *scaled.iter().max().unwrap();
     let least = paths.iter().zip(&scaled).filter(|(_, &sum)| sum == most).map(|(p, _)| p).min().unwrap();
-    let most_cores = *graph.cores.iter().max().unwrap() as u128;
+    let most_cores =
+        (0..graph.cores.len()).filter(|&s| graph.is_used(s)).map(|s| graph.cores[s] as u128).max().unwrap();
     let volumes: u128 =
         (0..graph.vertices()).map(|v| one_part(graph.wcets[v] as u128, graph.cores_of(v) as u128)).sum();
     let old = one_part(len * (most_cores - 1), most_cores) + volumes;
     let new = most + volumes;
     let whole = new / PARTS_IN_A_TICK as u128;
     bounds(graph) == Bounds { old: old as u64, new: new as u64, ticks: whole as u64 } && least_path(graph) == *least
+}
+
+/// Kinds that no vertex has count for nothing: one more of them, and none of them, leave both bounds as they are.
+fn unused_agree(graph: &Graph) -> bool {
+    let more = Graph { cores: [&graph.cores[..], &[MOST_CORES]].concat(), ..graph.clone() };
+    let used: Vec<usize> = (0..graph.cores.len()).filter(|&s| graph.is_used(s)).collect();
+    let place = |kind: u8| used.iter().position(|&s| s == kind as usize).unwrap() as u8;
+    let fewer = Graph {
+        cores: used.iter().map(|&s| graph.cores[s]).collect(),
+        kinds: graph.kinds.iter().map(|&kind| place(kind)).collect(),
+        ..graph.clone()
+    };
+    [more, fewer].iter().all(|other| bounds(other) == bounds(graph))
 }
 
 /// Each gain is what the longest path and the volume lose together: the paths are all there, and v's time is left out of
@@ -186,7 +204,7 @@ fn finishes_agree(graph: &Graph, times: &[u32], finishes: Vec<Option<u32>>) -> b
     run(graph, times, 128) == Ok(finishes) && spans(graph, times).iter().all(|span| span.end <= bound)
 }
 
-/// The cases of document 01, the examples of document 000, and the samples.
+/// The cases of document 01, order 2's own, the examples of document 000, and the samples.
 fn worked_on_paper() -> Vec<String> {
     let mut faults = Vec::new();
     let mut expect = |name: &str, holds: bool| {
@@ -207,6 +225,8 @@ fn worked_on_paper() -> Vec<String> {
     expect("B", old_new(&b) == (13_333_320, 12_612_600));
     let c = Lists { cores: vec![16, 3], ..a.clone() };
     expect("C", old_new(&c) == (14_144_130, 11_801_790));
+    expect("A with unused cores", bounds(&graph(&unused_cores())) == bounds(&graph(&a)));
+    expect("A with cores for no time", old_new(&cores_for_no_time()) == (17_297_280, 13_693_680));
     let d = case_d();
     expect("D", old_new(&d) == (12_252_240, 12_252_240) && least_path(&graph(&d)) == [0, 1, 3, 6]);
     expect("D, full times", finishes(&d, &d.wcets).unwrap().into_iter().max() == Some(9));

@@ -13,7 +13,7 @@ pub struct Bounds {
 }
 
 pub fn bounds(graph: &Graph) -> Bounds {
-    let most_cores = *graph.cores.iter().max().expect("a graph has a kind") as u64;
+    let most_cores = most_cores_in_use(graph);
     let plain: Vec<u64> = graph.wcets.iter().map(|&c| c as u64).collect();
     let shares = shares_of_all_kinds(graph);
     let new = new_b_1(graph);
@@ -22,6 +22,11 @@ pub fn bounds(graph: &Graph) -> Bounds {
         new,
         ticks: new / PARTS_IN_A_TICK,
     }
+}
+
+/// Over the kinds that at least one vertex has; one with WCET 0 counts.
+fn most_cores_in_use(graph: &Graph) -> u64 {
+    (0..graph.vertices()).map(|v| graph.cores_of(v)).max().expect("a graph has a vertex")
 }
 
 pub fn new_b_1(graph: &Graph) -> u64 {

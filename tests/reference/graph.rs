@@ -30,6 +30,11 @@ impl Graph {
         self.cores[self.kinds[v] as usize] as u64
     }
 
+    /// Whether some vertex has it.
+    pub fn is_used(&self, kind: usize) -> bool {
+        self.kinds.iter().any(|&k| k as usize == kind)
+    }
+
     pub fn predecessors(&self) -> Vec<Vec<usize>> {
         let mut before = vec![Vec::new(); self.vertices()];
         for &(from, to) in &self.edges {

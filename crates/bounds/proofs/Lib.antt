@@ -7,3 +7,5 @@ pub mod Unique
 pub mod Outcomes
 -- Bounds and path as functions that compute, and the worked cases:
 pub mod Computed
+-- Cores that no vertex has:
+pub mod Unused

@@ -8,10 +8,9 @@ use native.Mathlib.Omega.{arith}
 use lib.ListN.{getD}
 use Rattle.model.specs.Places.{along, padded}
 use Rattle.model.specs.Path.{Greatest}
-use Rattle.model.specs.Bounds.{PARTS, scaled, mostCores}
+use Rattle.model.specs.Bounds.{PARTS, scaled}
 use Rattle.model.specs.Graph as model
 use Rattle.model.proofs.Tables.{padded-at}
-use Rattle.model.proofs.Sums.{largest-most}
 use Rattle.graph.specs.Model.{AcceptedGraph, asModel}
 use Rattle.graph.specs.declared.Graph.{Graph}
 use Rattle.reader.specs.Laid.{Along}
@@ -34,12 +33,6 @@ module _ {g : Graph} (G : AcceptedGraph g) where
     some-core = G .well-formed .some-core;
     short = G .short;
   }
-
-  pub some-cores : 0 < mostCores (asModel g)
-  unfolding asModel mostCores
-  some-cores =
-      let k = G .well-formed .kind-known 0 (G .some-vertex) in
-      omega (arith, G .well-formed .some-core _ k, largest-most (asModel g .cores) (g .kinds) (asModel g .kind 0) k)
 
   -- a list of weights by a measure of which none is above c, and the largest sum over it
   module _ {st o : List ℕ} (A : Along g st o) (by : Measure) (c : ℕ) (most : (v : ℕ) → v < g .n → weightBy by (asModel g) v ≤ c) (room : c ≤ 720720000000)

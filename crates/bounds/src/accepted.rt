@@ -41,7 +41,7 @@ fn largest(
     weight[h] + sums.ahead[h]
 }
 
-// OLD-B, from the longest sum of plain WCETs and the largest core number.
+// OLD-B, from the longest sum of plain WCETs and the largest core number of a kind that a vertex has.
 fn old_b(len: Ticks, cores: u8, shares: Parts) -> Parts
     requires { ⌜ (len .0 ≤ 128000000) × (0 < cores) × (shares .0 ≤ 922521600000000) ⌝ }
     ensures { λ r. ⌜ r .0 ≡ (PARTS - PARTS / cores) * len .0 + shares .0 ⌝ }
@@ -68,7 +68,7 @@ pub(crate) fn figures_of<'a>(
     let plain = weights(kind, wcet, cores, kinds, n, Measure::Plain);
     let scaled = weights(kind, wcet, cores, kinds, n, Measure::Scaled);
     let len = Ticks(largest(edge, start, order, n, &plain));
-    let old = old_b(len, most_cores(cores, kinds), shares);
+    let old = old_b(len, most_cores(kind, cores, kinds, n), shares);
     let new = Parts(largest(edge, start, order, n, &scaled)).plus(shares);
     let ticks = new.ticks();
     Bounded {

@@ -1,6 +1,8 @@
 -- DEMAND 2. The two bounds equal OLD-B and NEW-B-1 of Han and others exactly, in parts of a tick. The record file reads back as the lists
 -- it was written from and writes back as the same bytes. A run equals document 01's list schedule, tick for tick.
 --
+-- OLD-B takes Mmax over the types that at least one vertex has (document 02, order 2).
+--
 -- Said over the contracts of the entries (`BoundsGives` and the like, specs/Entries).
 use mathlib.Core.Path.{_≡_, refl, sym, ap, _∙_}
 use mathlib.Core.List.{List, _++_}

@@ -1,4 +1,4 @@
--- The starred cases of document 01, "Worked on paper", from the file's bytes: one table.
+-- The starred cases of document 01, "Worked on paper", and those of the orders, from the file's bytes: one table.
 --
 --   Row            a line of the table
 --   Right          what a line says
@@ -75,15 +75,22 @@ vertex i k wcet = 0x56 ∷ i ∷ k ∷ 0 ∷ wcet ∷ 0 ∷ 0 ∷ 0 ∷ []
 abbrev edge : ℕ → ℕ → List ℕ
 edge u v = 0x45 ∷ u ∷ v ∷ 0 ∷ 0 ∷ 0 ∷ 0 ∷ 0 ∷ []
 
+abbrev verticesA : List ℕ
+verticesA = vertex 0 0 4 ++ vertex 1 1 9 ++ vertex 2 0 6 ++ vertex 3 1 3
+
 -- case A with another number of cores of kind 0, and with other edges
 abbrev withEdges : ℕ → List ℕ → List ℕ
-withEdges cores edges = kind 0 cores ++ kind 1 3 ++ vertex 0 0 4 ++ vertex 1 1 9 ++ vertex 2 0 6 ++ vertex 3 1 3 ++ edges
+withEdges cores edges = kind 0 cores ++ kind 1 3 ++ verticesA ++ edges
 
 abbrev edgesA : List ℕ
 edgesA = edge 0 1 ++ edge 0 2 ++ edge 1 3 ++ edge 2 3
 
 abbrev pub fileA : List ℕ
 fileA = withEdges 2 edgesA
+
+-- case A with a third kind, of 16 cores
+abbrev withVision : List ℕ → List ℕ
+withVision rest = kind 0 2 ++ kind 1 3 ++ kind 2 16 ++ verticesA ++ rest
 
 abbrev pub fileD : List ℕ
 fileD =
@@ -129,4 +136,7 @@ rows =
     ∷ no-file (withEdges 2 (edge 0 1 ++ edgesA)) 10 7
     -- L: times 4, 10, 6, 3 on A
     ∷ no-start fileA (4 ∷ 10 ∷ 6 ∷ 3 ∷ []) 14 1
+    -- order 2: A with a third kind of 16 cores that no vertex has; and that a vertex of WCET 0 has, between 0 and 3
+    ∷ bounds (withVision edgesA) 14174160 13693680 19 (0 ∷ 1 ∷ 3 ∷ [])
+    ∷ bounds (withVision (vertex 4 2 0 ++ edge 0 1 ++ edge 0 2 ++ edge 0 4 ++ edge 1 3 ++ edge 2 3 ++ edge 4 3)) 17297280 13693680 19 (0 ∷ 1 ∷ 3 ∷ [])
     ∷ []

@@ -3,7 +3,8 @@
 --   PARTS           one tick is 720,720 parts, the least common multiple of 1 to 16
 --   vol G s         the sum of the WCETs over the vertices of kind s
 --   volume G        for each kind its vol × PARTS / cores, added up
---   mostCores G     the largest core number among all declared kinds (Mmax)
+--   used G s        at least one vertex has kind s, as a test; one with WCET 0 counts
+--   mostCores G     the largest core number among the kinds that at least one vertex has (Mmax; document 02, order 2)
 --   scaled G v      the scaled weight of v
 --   OldB G B        B is OLD-B of G
 --   NewB1 G B       B is NEW-B-1 of G
@@ -13,7 +14,7 @@ use mathlib.Core.Bool.{Bool}
 use mathlib.Core.List.{List}
 use Prim.Native.Nat.{ℕ, _+_, _-_, _*_, _/_}
 use lib.Dec.{eqb}
-use Rattle.model.specs.Places.{pick, sum, largest, along}
+use Rattle.model.specs.Places.{pick, any, sum, largest, along}
 use Rattle.model.specs.Graph.{Graph}
 use Rattle.model.specs.Path.{Greatest, LeastLongest}
 
@@ -26,8 +27,12 @@ vol G s = sum (λ v. pick (eqb (G .kind v) s) (G .wcet v) 0) (G .n)
 unfoldable pub volume : Graph → ℕ
 volume G = sum (λ s. vol G s * PARTS / G .cores s) (G .kinds)
 
+unfoldable pub used : Graph → ℕ → Bool
+used G s = any (λ v. eqb (G .kind v) s) (G .n)
+
+-- a kind that no vertex has counts as one without cores
 unfoldable pub mostCores : Graph → ℕ
-mostCores G = largest (G .cores) (G .kinds)
+mostCores G = largest (λ s. pick (used G s) (G .cores s) 0) (G .kinds)
 
 unfoldable pub scaled : Graph → ℕ → ℕ
 scaled G v = G .wcet v * (PARTS - PARTS / G .cores (G .kind v))

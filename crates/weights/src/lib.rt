@@ -6,7 +6,7 @@ ghost use Rattle.model.specs.Places.{padded};
 ghost use Rattle.weights.specs.Weight.{rateOf, ratesOf, weightBy, stages, Small};
 use units::Parts;
 
-pub mod volume; // volume.rt: the sum over the kinds, and the largest core number
+pub mod volume; // volume.rt: the sum over the kinds, and the most cores of a kind that a vertex has
 
 // Plain WCETs in ticks, or scaled weights in parts.
 pub enum Measure {

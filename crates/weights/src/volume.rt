@@ -1,9 +1,12 @@
-// The sum over the kinds that both bounds have, and the largest core number.
+// The sum over the kinds that both bounds have, and the largest core number of a kind that a vertex has.
 ghost use mathlib.Core.Path.{_≡_};
+ghost use mathlib.Core.Bool.{false};
+ghost use mathlib.Core.List.{List};
 ghost use Prim.Native.Nat.{ℕ, _≤_, _<_, max};
+ghost use lib.Dec.{eqb};
 ghost use lib.ListN.{getD};
-ghost use Rattle.model.specs.Places.{largest};
-ghost use Rattle.model.specs.Bounds.{vol, volume};
+ghost use Rattle.model.specs.Places.{pick, any};
+ghost use Rattle.model.specs.Bounds.{vol, volume, mostCores};
 ghost use Rattle.weights.specs.Weight.{stages, Small};
 use units::Parts;
 use units::Ticks;
@@ -57,15 +60,38 @@ fn larger(a: u8, b: u8) -> u8
     if a < b { b } else { a }
 }
 
-// Of all declared kinds, also those that no vertex has.
-pub fn most_cores(cores: &[u8; 10], kinds: usize) -> u8
-    requires { ⌜ kinds ≤ 10 ⌝ }
-    ensures { λ r. ⌜ r ≡ largest (λ s. getD (now (cores .entry)) s 0) kinds ⌝ }
+// Which kinds at least one vertex has, whatever its WCET.
+fn used_kinds(kind: &[u8; 128], n: usize) -> [bool; 10]
+    requires { ⌜ n ≤ 128 ⌝ }
+    requires { ⌜ ((v : ℕ) → v < n → getD (now kind) v 0 < 10) ⌝ }
+    ensures { λ r. ⌜ ((s : ℕ) → s < 10 → getD r s false ≡ any (λ v. eqb (getD (now (kind .entry)) v 0) s) n) ⌝ }
 {
+    let mut used = [false; 10];
+    let mut v: usize = 0;
+    while v < n {
+        used[kind[v] as usize] = true;
+        v += 1;
+    }
+    used
+}
+
+// A kind that is only declared counts as one without cores.
+fn counted(used: bool, cores: u8) -> u8
+    ensures { λ r. ⌜ r ≡ pick used cores 0 ⌝ }
+{
+    if used { cores } else { 0 }
+}
+
+// Mmax, which no WCET changes.
+pub fn most_cores<'a>(kind: &'a [u8; 128], cores: &'a [u8; 10], kinds: usize, n: usize) -> u8
+    requires { ⌜ ((c : List ℕ) × Small (stages (now kind) c (now cores) kinds n)) ⌝ }
+    ensures { λ r. ⌜ ((c : List ℕ) → r ≡ mostCores (stages (now (kind .entry)) c (now (cores .entry)) kinds n)) ⌝ }
+{
+    let used = used_kinds(kind, n);
     let mut most: u8 = 0;
     let mut s: usize = 0;
     while s < kinds {
-        most = larger(most, cores[s]);
+        most = larger(most, counted(used[s], cores[s]));
         s += 1;
     }
     most

@@ -1,15 +1,16 @@
 -- The two longest sums, with the volume once for both.
 use mathlib.Core.Path.{_≡_, refl, ap, ap₂, _∙_}
+use mathlib.Core.List.{[]}
 use Prim.Native.Nat.{ℕ, _+_, _-_, _*_, _/_}
 use native.Mathlib.Omega.{arith}
 use borrow.Author.Needs.{needs}
-use Rattle.model.specs.Places.{largest}
-use Rattle.model.specs.Bounds.{PARTS, vol, volume, mostCores}
+use Rattle.model.specs.Bounds.{PARTS, vol, volume, used, mostCores}
+use Rattle.model.proofs.Compare.{some-cores}
 use Rattle.graph.specs.Model.{asModel}
 use Rattle.graph.specs.declared.Graph.{Graph}
 use Rattle.reader.specs.Laid.{graphIn}
 use Rattle.weights.specs.declared.Measure.the-variants.{Plain, Scaled}
-use Rattle.bounds.proofs.Weighing.{small-stages, some-cores, weighed-by, greatest-by, small-by, plain-most, plain-is, scaled-most, scaled-is}
+use Rattle.bounds.proofs.Weighing.{small-stages, weighed-by, greatest-by, small-by, plain-most, plain-is, scaled-most, scaled-is}
 use Rattle.bounds.proofs.accepted.figures_of.Statement.{statement}
 use Rattle.bounds.proofs.accepted.figures_of.Tie as tie
 
@@ -33,12 +34,14 @@ largest-requires c κs =
     (_, weighed-by (p .accepted) (p .along) Plain 1000000 (plain-most (p .accepted)) (omega arith) (w .weights .ensures))
 
 most-cores-requires : tie.Need-most-cores-requires
-most-cores-requires c κs = c .before .before .before .before .before .pre .accepted .few-kinds
+most-cores-requires c κs =
+    let s = c .before .before .before .before .before in
+    (s .args .wcet .now, small-stages (s .pre .accepted))
 
 -- what the code finds are the most cores
 cores : (c : tie.After-most-cores) → c .most-cores .result ≡ mostCores (asModel (given (c .before .before .before .before .before .before)))
-unfolding mostCores largest asModel
-cores c = c .most-cores .ensures
+unfolding mostCores used asModel
+cores c = c .most-cores .ensures []
 
 old-b-requires : tie.Need-old-b-requires
 old-b-requires c κs =
@@ -46,7 +49,7 @@ old-b-requires c κs =
     let w = l .before .before .before in
     let p = w .before .before .pre in (
       small-by (p .accepted) (p .along) Plain 1000000 (plain-most (p .accepted)) (omega arith) (w .weights .ensures) (l .largest .result) (l .largest .ensures),
-      rw (cores c) (some-cores (p .accepted)),
+      rw (cores c) (some-cores (p .accepted .well-formed)),
       w .before .volume .ensures .1,
     )
 
