@@ -138,29 +138,29 @@ typedef struct PlannerFinish {
 } PlannerFinish;
 PLANNER_SIZE(PlannerFinish, 16);
 
-/* Reads a file: its counts and lists. Refuses with 1 to 12. */
+/* Reads a file: its counts and lists. Refuses with 1 to 11. */
 PlannerGraph planner_read(const uint8_t *file, size_t file_length);
 
 /* Writes the file of a graph into `out` and counts its bytes: 8 for each type, vertex and edge. Takes the cores of each type, the type
-   and WCET of each vertex, and the edges as from * 256 + to. Refuses with 13 (types and WCETs of different lengths), then 4 to 12, with the
+   and WCET of each vertex, and the edges as from * 256 + to. Refuses with 13 (types and WCETs of different lengths), then 4 to 11, with the
    places that the records would have had, then 15 (`out` is shorter than the file). */
 PlannerCount planner_write(const uint8_t *cores, size_t cores_length, const uint8_t *kinds, size_t kinds_length, const uint32_t *wcets,
                            size_t wcets_length, const uint16_t *edges, size_t edges_length, uint8_t *out, size_t out_length);
 
 /* The bounds OLD-B and NEW-B-1 of a file's graph. No work-conserving schedule of it ends after tick `ticks`, whatever execution times up to
-   the WCETs its vertices take. Cores of a type that no vertex has count for nothing. Refuses with 1 to 12. */
+   the WCETs its vertices take. Cores of a type that no vertex has count for nothing. Refuses with 1 to 11. */
 PlannerBounds planner_bounds(const uint8_t *file, size_t file_length);
 
-/* The path that gives NEW-B-1: its vertices, from source to sink, into `out`, and how many they are. Refuses with 1 to 12, then 15 (`out`
+/* The path that gives NEW-B-1: its vertices, from a source to a sink, into `out`, and how many they are. Refuses with 1 to 11, then 15 (`out`
    has fewer places than the graph has vertices, even where the path is shorter). */
 PlannerCount planner_path(const uint8_t *file, size_t file_length, uint8_t *out, size_t out_length);
 
-/* A run record at instant 0. Takes the execution time of each vertex, in ticks. Refuses with 1 to 12, then 13 (not one time for each vertex),
+/* A run record at instant 0. Takes the execution time of each vertex, in ticks. Refuses with 1 to 11, then 13 (not one time for each vertex),
    then 14 (a time above that vertex's WCET; the place is the vertex). */
 PlannerRun planner_start(const uint8_t *file, size_t file_length, const uint32_t *times, size_t times_length);
 
 /* One tick of the list schedule: takes a record and hands one back. A run whose vertices are all finished is done, and does not move; every
-   other tick moves, the one that ends the last vertex too. Refuses with 1 to 12, then 16 (the record doesn't suit this graph), and then
+   other tick moves, the one that ends the last vertex too. Refuses with 1 to 11, then 16 (the record doesn't suit this graph), and then
    hands back the record it was given. */
 PlannerTick planner_tick(PlannerRecord run, const uint8_t *file, size_t file_length);
 
@@ -168,17 +168,17 @@ PlannerTick planner_tick(PlannerRecord run, const uint8_t *file, size_t file_len
 PlannerMoved planner_tick_in_place(PlannerRecord *run, const uint8_t *file, size_t file_length);
 
 /* A whole run: the instant at which each vertex finishes into `finishes`, and the finish of the run, both in ticks. Takes the execution time
-   of each vertex. Refuses with 1 to 12, then 13, then 14, as a start does, then 15 (`finishes` has fewer places than the graph has
+   of each vertex. Refuses with 1 to 11, then 13, then 14, as a start does, then 15 (`finishes` has fewer places than the graph has
    vertices). */
 PlannerFinish planner_run(const uint8_t *file, size_t file_length, const uint32_t *times, size_t times_length, uint32_t *finishes,
                           size_t finishes_length);
 
 /* What a rewrite would gain: for each vertex NEW-B-1 less NEW-B-1 of the same graph with that vertex's WCET set to 0, in parts, into `gains`,
-   and how many vertices there are. No gain is more than the vertex's WCET in parts. Refuses with 1 to 12, then 15 (`gains` has fewer places
+   and how many vertices there are. No gain is more than the vertex's WCET in parts. Refuses with 1 to 11, then 15 (`gains` has fewer places
    than the graph has vertices). */
 PlannerCount planner_gains(const uint8_t *file, size_t file_length, uint64_t *gains, size_t gains_length);
 
-/* The gains of the graph in which one vertex has another WCET: both bounds are taken there, and the file stays as it is. Refuses with 1 to 12,
+/* The gains of the graph in which one vertex has another WCET: both bounds are taken there, and the file stays as it is. Refuses with 1 to 11,
    then 7 at 0 (the graph doesn't have that vertex, whatever the WCET), then 7 at the vertex's record (the WCET is above the limit), then
    15. */
 PlannerCount planner_gains_altered(const uint8_t *file, size_t file_length, uint32_t vertex, uint32_t wcet, uint64_t *gains,

@@ -83,6 +83,16 @@ pub fn middle_of_no_time() -> Lists {
     Lists { cores: vec![2], kinds: vec![0; 3], wcets: vec![3, 0, 2], edges: vec![edge(0, 1), edge(1, 2)] }
 }
 
+/// The smallest graph of two sources and two sinks; both have the largest sum.
+pub fn two_without_an_edge() -> Lists {
+    Lists { cores: vec![2], kinds: vec![0; 2], wcets: vec![3; 2], edges: vec![] }
+}
+
+/// Vertex 0 has the largest sum by itself, but a vertex that takes no time leads to it: the path begins there.
+pub fn source_of_no_time() -> Lists {
+    Lists { wcets: vec![3, 0], edges: vec![edge(1, 0)], ..two_without_an_edge() }
+}
+
 fn worked_cases() -> Vec<Vec<u8>> {
     let altered = |change: &dyn Fn(&mut Lists)| {
         let mut lists = case_a();
@@ -103,6 +113,8 @@ fn worked_cases() -> Vec<Vec<u8>> {
         middle_of_no_time(),
         unused_cores(),
         cores_for_no_time(),
+        two_without_an_edge(),
+        source_of_no_time(),
     ];
     cases.iter().map(|lists| file_of_records(&records_of(lists))).collect()
 }
@@ -121,7 +133,25 @@ fn good_limits() -> Vec<Graph> {
         chain(1, 16, MOST_WCET),
         chain(64, 3, 1),
         chain(65, 3, 0),
+        with_edges(chain(2, 16, 1), &[]),
+        with_edges(chain(128, 16, MOST_WCET), &[]),
+        with_edges(chain(128, 1, MOST_WCET), &[]),
+        with_edges(chain(128, 3, 5), &each(127, |v| (v, 127))),
+        with_edges(chain(128, 3, 5), &each(127, |v| (0, v + 1))),
+        with_edges(chain(128, 3, 5), &each(64, |v| (v, v + 64))),
+        with_edges(chain(128, 3, 5), &each(64, |v| (2 * v + 1, 2 * v))),
+        with_edges(chain(128, 3, 5), &each(127, |v| (v / 2 * 2, v / 2 * 2 + 1))),
     ]
+}
+
+fn with_edges(graph: Graph, edges: &[(u8, u8)]) -> Graph {
+    Graph { edges: edges.to_vec(), ..graph }
+}
+
+fn each(n: u8, edge: impl Fn(u8) -> (u8, u8)) -> Vec<(u8, u8)> {
+    let mut edges: Vec<(u8, u8)> = (0..n).map(edge).collect();
+    edges.dedup();
+    edges
 }
 
 /// One step over each limit; the file with 10 types, 128 vertices and 1,025 edges is too long, so there it is 1.
@@ -150,7 +180,6 @@ fn broken_limits() -> Vec<Lists> {
         with(chain(5, 16, 1), &|l| l.cores[0] = 0),
         with(chain(5, 16, 1), &|l| l.edges.insert(0, edge(0, 0))),
         with(chain(5, 16, 1), &|l| l.edges.push(edge(4, 5))),
-        with(chain(2, 16, 1), &|l| l.edges.clear()),
         with(chain(128, 2, 1), &|l| l.edges.push(edge(127, 0))),
         Lists::default(),
     ]

@@ -7,7 +7,7 @@ use crate::reference::graph::{LONGEST_FILE, MOST_EDGES, MOST_VERTICES, MOST_WCET
 use crate::reference::reader::{EDGE, KIND, VERTEX};
 use crate::reference::writer::Lists;
 
-/// The file of the lists after each of the numbers, 1 to 12, has got its fault.
+/// The file of the lists after each of the numbers, 1 to 11, has got its fault.
 pub fn file_with(random: &mut Random, lists: &Lists, numbers: &[u32]) -> Vec<u8> {
     let mut numbers = numbers.to_vec();
     numbers.sort_unstable();
@@ -36,7 +36,7 @@ pub fn file_with(random: &mut Random, lists: &Lists, numbers: &[u32]) -> Vec<u8>
     file
 }
 
-/// Numbers 4 to 13, in lists of a graph with at least three vertices.
+/// Numbers 4 to 11 and 13, in lists of a graph with at least three vertices and an edge.
 pub fn plant(random: &mut Random, lists: &mut Lists, number: u32) {
     match number {
         4 if random.one_in(2) => lists.cores.clear(),
@@ -52,7 +52,6 @@ pub fn plant(random: &mut Random, lists: &mut Lists, number: u32) {
         9 => plant_wrong_edge(random, lists),
         10 => plant_disorder(random, lists),
         11 => plant_cycle(random, lists),
-        12 => plant_second_end(random, lists),
         13 if random.one_in(2) => lists.wcets.push(0),
         13 => lists.kinds.push(0),
         _ => panic!("no fault for number {number}"),
@@ -134,18 +133,6 @@ fn plant_cycle(random: &mut Random, lists: &mut Lists) {
         lists.edges.push(edge(end, begin));
     }
     lists.edges.sort_unstable();
-}
-
-/// A second source, a second sink, or a vertex that is both.
-fn plant_second_end(random: &mut Random, lists: &mut Lists) {
-    let n = lists.kinds.len();
-    let chosen = lists.edges[random.below(lists.edges.len())];
-    match random.below(3) {
-        0 => lists.edges.retain(|e| *e as u8 != chosen as u8),
-        1 => lists.edges.retain(|e| e >> 8 != chosen >> 8),
-        _ if n < MOST_VERTICES => resize_vertices(lists, n + 1),
-        _ => lists.edges.clear(),
-    }
 }
 
 fn misnumber(random: &mut Random, records: &mut [Record], kind: u8) {

@@ -1,5 +1,5 @@
-//! Accepted graphs. A graph is first laid out in positions, edges going up, position 0 the source and the last one the
-//! sink; then the positions get vertex numbers in some order, so that edges go against the numbering too.
+//! Accepted graphs. A graph is first laid out in positions, edges going up; then the positions get vertex numbers in some
+//! order, so that edges go against the numbering too. Half of them have one source and one sink, the others any number.
 
 use super::random::Random;
 use crate::reference::graph::{Graph, MOST_CORES, MOST_EDGES, MOST_KINDS, MOST_VERTICES, MOST_WCET};
@@ -20,10 +20,13 @@ pub fn any(random: &mut Random) -> Graph {
     of(random, n, wcet)
 }
 
-/// Of at least three vertices and few kinds, so that every fault can be planted within the longest file.
+/// Of at least three vertices, an edge and few kinds, so that every fault can be planted within the longest file.
 pub fn to_be_damaged(random: &mut Random) -> Graph {
     let n = random.between(3, 30);
     let mut graph = of(random, n, 20);
+    if graph.edges.is_empty() {
+        graph.edges.push((0, 1));
+    }
     graph.cores.truncate(4);
     let k = graph.cores.len() as u8;
     graph.kinds.iter_mut().for_each(|kind| *kind %= k);
@@ -34,7 +37,8 @@ pub fn to_be_damaged(random: &mut Random) -> Graph {
 pub fn of(random: &mut Random, n: usize, most_wcet: u32) -> Graph {
     let kinds = random.pick(&[1, 1, 2, 2, 3, 4, MOST_KINDS]);
     let extra = random.pick(&[0, 0, n / 2, 2 * n, 6 * n, 4 * MOST_EDGES]);
-    let layout = layout(random, n, MOST_EDGES, extra);
+    let mut layout = layout(random, n, MOST_EDGES, extra);
+    loosen(random, n, &mut layout);
     let (cores, used) = board(random, kinds);
     Graph {
         cores,
@@ -70,7 +74,8 @@ pub fn chain(n: usize, cores: u8, wcet: u32) -> Graph {
 }
 
 /// With several longest paths: joints one behind the other, and from each to the next some branches that have the same
-/// vertices in another order. Now and then a branch is shorter than its twins by a tick, or an edge leads past a joint.
+/// vertices in another order. Now and then a branch is shorter than its twins by a tick, or an edge leads past a joint, or
+/// the first joint or the last is cut off, so that the longest paths begin or end at several vertices.
 pub fn twins(random: &mut Random) -> Graph {
     let kinds = random.between(1, 4);
     let (cores, used) = board(random, kinds);
@@ -99,6 +104,12 @@ pub fn twins(random: &mut Random) -> Graph {
     }
     if random.one_in(3) {
         layout.extend(upward(random, vertices.len()));
+    }
+    if random.one_in(3) {
+        layout.retain(|&(from, _)| from != 0);
+    }
+    if random.one_in(3) {
+        layout.retain(|&(_, to)| to != vertices.len() - 1);
     }
     let number = numbers(random, vertices.len());
     let mut of_number = vec![(0, 0); vertices.len()];
@@ -132,6 +143,29 @@ fn layout(random: &mut Random, n: usize, most: usize, extra: usize) -> BTreeSet<
         }
     }
     edges
+}
+
+/// Half of the layouts stay as they are. The others lose edges: all or most of them; those between parts that nothing
+/// joins then; or those into some positions and out of others, which become sources and sinks.
+fn loosen(random: &mut Random, n: usize, edges: &mut BTreeSet<(usize, usize)>) {
+    match random.below(6) {
+        0 => {
+            let kept = random.pick(&[0, 1, 1, 2]);
+            edges.retain(|_| random.below(4) < kept);
+        }
+        1 => {
+            let parts = random.between(2, 4);
+            let part: Vec<usize> = (0..n).map(|_| random.below(parts)).collect();
+            edges.retain(|&(from, to)| part[from] == part[to]);
+        }
+        2 => {
+            let some = random.pick(&[2, 4]);
+            let is_source: Vec<bool> = (0..n).map(|_| random.one_in(some)).collect();
+            let is_sink: Vec<bool> = (0..n).map(|_| random.one_in(some)).collect();
+            edges.retain(|&(from, to)| !is_source[to] && !is_sink[from]);
+        }
+        _ => {}
+    }
 }
 
 /// An edge between two positions, where there are two.

@@ -65,7 +65,7 @@ fn any_file(random: &mut Random, good_for_bad: usize) -> (Graph, Vec<u8>) {
         return (graph, file);
     }
     let graph = graphs::to_be_damaged(random);
-    let numbers = [random.between(1, 12) as u32, random.between(1, 12) as u32];
+    let numbers = [random.between(1, 11) as u32, random.between(1, 11) as u32];
     let many = random.between(1, 2);
     let file = file_with(random, &lists_of(&graph), &numbers[..many]);
     (graph, file)
@@ -86,7 +86,7 @@ fn any_write(random: &mut Random) -> Request {
         lists = lists_of(&graphs::any(random));
     } else {
         lists = lists_of(&graphs::to_be_damaged(random));
-        let (a, b) = (random.between(3, 12) as u32, random.between(3, 12) as u32);
+        let (a, b) = (random.between(3, 11) as u32, random.between(3, 11) as u32);
         plant(random, &mut lists, in_writer(a.max(b)));
         if a != b && random.one_in(2) {
             plant(random, &mut lists, in_writer(a.min(b)));

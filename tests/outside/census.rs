@@ -10,19 +10,19 @@ use crate::reference::graph::Graph;
 use crate::reference::reader::read;
 use std::collections::BTreeMap;
 
-/// What can be answered to each letter. `-` is any request that isn't one. A 7 of A is the file's own; the two 7s of what
-/// is altered have words: `vertex` where the graph doesn't have it, `wcet` where the new one is above the limit.
+/// What can be answered to each letter: 12 never. `-` is any request that isn't one. A 7 of A is the file's own; the two
+/// 7s of what is altered have words: `vertex` where the graph doesn't have it, `wcet` where the new one is above the limit.
 const POSSIBLE: [(char, &str, &[u32]); 11] = [
-    ('R', "graph", &[1, 2, 3, 4, 5, 6, 7, 8, 9, 10, 11, 12]),
-    ('W', "wrote", &[4, 5, 6, 7, 8, 9, 10, 11, 12, 13, 15]),
-    ('B', "old", &[1, 2, 3, 4, 5, 6, 7, 8, 9, 10, 11, 12]),
-    ('P', "path", &[1, 2, 3, 4, 5, 6, 7, 8, 9, 10, 11, 12, 15]),
-    ('S', "started", &[1, 2, 3, 4, 5, 6, 7, 8, 9, 10, 11, 12, 13, 14]),
-    ('T', "moved done", &[1, 2, 3, 4, 5, 6, 7, 8, 9, 10, 11, 12, 16]),
-    ('I', "moved done", &[1, 2, 3, 4, 5, 6, 7, 8, 9, 10, 11, 12, 16]),
-    ('X', "finish", &[1, 2, 3, 4, 5, 6, 7, 8, 9, 10, 11, 12, 13, 14, 15]),
-    ('G', "gains", &[1, 2, 3, 4, 5, 6, 7, 8, 9, 10, 11, 12, 15]),
-    ('A', "gains vertex wcet", &[1, 2, 3, 4, 5, 6, 7, 8, 9, 10, 11, 12, 15]),
+    ('R', "graph", &[1, 2, 3, 4, 5, 6, 7, 8, 9, 10, 11]),
+    ('W', "wrote", &[4, 5, 6, 7, 8, 9, 10, 11, 13, 15]),
+    ('B', "old", &[1, 2, 3, 4, 5, 6, 7, 8, 9, 10, 11]),
+    ('P', "path", &[1, 2, 3, 4, 5, 6, 7, 8, 9, 10, 11, 15]),
+    ('S', "started", &[1, 2, 3, 4, 5, 6, 7, 8, 9, 10, 11, 13, 14]),
+    ('T', "moved done", &[1, 2, 3, 4, 5, 6, 7, 8, 9, 10, 11, 16]),
+    ('I', "moved done", &[1, 2, 3, 4, 5, 6, 7, 8, 9, 10, 11, 16]),
+    ('X', "finish", &[1, 2, 3, 4, 5, 6, 7, 8, 9, 10, 11, 13, 14, 15]),
+    ('G', "gains", &[1, 2, 3, 4, 5, 6, 7, 8, 9, 10, 11, 15]),
+    ('A', "gains vertex wcet", &[1, 2, 3, 4, 5, 6, 7, 8, 9, 10, 11, 15]),
     ('-', "bad", &[]),
 ];
 

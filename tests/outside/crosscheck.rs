@@ -4,8 +4,8 @@
 
 use crate::compare::hex;
 use crate::generate::altered;
-use crate::generate::catalogue::{case_a, case_d, case_f, cores_for_no_time, unused_cores};
-use crate::generate::catalogue::{middle_of_no_time, two_longest_paths, type_of_one_core};
+use crate::generate::catalogue::{case_a, case_d, case_f, cores_for_no_time, middle_of_no_time, source_of_no_time, two_longest_paths};
+use crate::generate::catalogue::{two_without_an_edge, type_of_one_core, unused_cores};
 use crate::generate::faults::file_with;
 use crate::generate::graphs::{of, to_be_damaged, twins};
 use crate::generate::lists::{edge, file_of as file_of_records, lists_of, records_of};
@@ -27,9 +27,10 @@ const EXAMPLES: [(&[u8], u64); 3] = [
     (include_bytes!("../examples/example-2.graph"), 468),
     (include_bytes!("../examples/example-3.graph"), 320),
 ];
-const SAMPLES: [(&[u8], &str); 2] = [
+const SAMPLES: [(&[u8], &str); 3] = [
     (include_bytes!("../../samples/case-a.graph"), include_str!("../../samples/case-a.sheet")),
     (include_bytes!("../../samples/board.graph"), include_str!("../../samples/board.sheet")),
+    (include_bytes!("../../samples/two-cameras.graph"), include_str!("../../samples/two-cameras.sheet")),
 ];
 
 pub fn faults(options: &Options) -> Vec<String> {
@@ -58,8 +59,8 @@ pub fn faults(options: &Options) -> Vec<String> {
             faults.push(format!("two ways of the reference differ on {graph:?}"));
         }
     }
-    for a in 1..=12 {
-        for b in a..=12 {
+    for a in 1..=11 {
+        for b in a..=11 {
             faults.extend((0..40).filter_map(|place| planted(options.seed, place, a, b)));
         }
     }
@@ -242,7 +243,13 @@ fn worked_on_paper() -> Vec<String> {
     let with_edges =
         |edges: &[(u8, u8)]| Lists { edges: edges.iter().map(|&(u, v)| edge(u, v)).collect(), ..a.clone() };
     expect("I", number(&with_edges(&[(0, 1), (0, 2), (1, 3), (2, 3), (3, 0)])) == Err(11));
-    expect("J", number(&with_edges(&[(0, 1), (1, 3), (2, 3)])) == Err(12));
+    let j = with_edges(&[(0, 1), (1, 3), (2, 3)]);
+    expect("J", sheet(&file(&j)) == "graph 2 4 3\nold 14174160\nnew 13693680\nticks 19\npath 0 1 3\ngains 1 0 2 3\n");
+    expect("J, full times", finishes(&j, &j.wcets) == Ok(vec![4, 13, 6, 16]));
+    let two = two_without_an_edge();
+    expect("two without an edge", old_new(&two) == (3_243_240, 3_243_240) && least_path(&graph(&two)) == [0]);
+    expect("the longer of two", least_path(&graph(&Lists { wcets: vec![3, 4], ..two })) == [1]);
+    expect("a source of no time", least_path(&graph(&source_of_no_time())) == [1, 0]);
     expect("K", number(&with_edges(&[(0, 1), (0, 1), (0, 2), (1, 3), (2, 3)])) == Err(10));
     expect("L", finishes(&a, &[4, 10, 6, 3]) == Err(Refusal { number: 14, place: 1 }));
 

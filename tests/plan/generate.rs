@@ -58,7 +58,12 @@ pub fn board(r: &mut Random) -> Vec<u8> {
     let n = 1 + r.below(most);
     let stages: Vec<Vec<u8>> = (0..n).map(|i| name(r, i)).collect();
     let mut waits: Vec<Vec<usize>> = vec![vec![]; n];
+    // half of them have one first stage and one last, the others any number
+    let joined = r.chance(2);
     for v in 1..n {
+        if !joined && r.chance(3) {
+            continue;
+        }
         waits[v].push(r.below(v));
         for _ in 0..r.below(4) {
             let u = r.below(v);
@@ -67,7 +72,7 @@ pub fn board(r: &mut Random) -> Vec<u8> {
             }
         }
     }
-    if n > 1 {
+    if joined && n > 1 {
         // one last stage for all that none waits for
         for u in 0..n - 1 {
             if !waits.iter().any(|w| w.contains(&u)) {

@@ -146,7 +146,7 @@ fn main() {
     let seen: Vec<String> = rows.iter().map(|(row, n)| format!("{row} {n}")).collect();
     eprintln!("{count} board texts, no difference: {}", seen.join(", "));
     let wanted = [
-        "11", "12 end", "12 start", "4", "5", "6", "7", "7 WCET", "7 stage", "9", "STAGE large", "STAGE no number", "WCET large",
+        "11", "4", "5", "6", "7", "7 WCET", "7 stage", "9", "STAGE large", "STAGE no number", "WCET large",
         "WCET no number", "accepted", "altered", "byte", "extra", "gains", "large", "long line", "long name", "long text", "many",
         "many waits", "missing", "no number", "no stage", "no type", "twice", "waits twice",
     ];

@@ -206,13 +206,6 @@ fn refused(text: &[u8], kinds: &[Kind], stages: &[Stage], edges: &Edges) -> Opti
     if let Some(v) = (0..n).find(|&v| returns_to(v, edges)) {
         return no(11, 0, "11", stages[v].line, format!("stage {} waits for itself by way of others", stage(v)));
     }
-    let free = |used: &dyn Fn(&(usize, usize)) -> usize| (0..n).filter(|&v| !edges.iter().any(|e| used(e) == v)).nth(1);
-    if let Some(v) = free(&|e| e.1) {
-        return no(12, 0, "12 start", stages[v].line, format!("stage {} is a second one that waits for none", stage(v)));
-    }
-    if let Some(v) = free(&|e| e.0) {
-        return no(12, 0, "12 end", stages[v].line, format!("stage {} is a second one that none waits for", stage(v)));
-    }
     None
 }
 

@@ -1,4 +1,4 @@
-//! Numbers 4 to 12. A number is tested over everything before the next one is looked at, so each is one line here.
+//! Numbers 4 to 11. A number is tested over everything before the next one is looked at, so each is one line here.
 
 use super::graph::{Graph, MOST_CORES, MOST_EDGES, MOST_KINDS, MOST_VERTICES, MOST_WCET};
 use super::order::has_cycle;
@@ -50,11 +50,5 @@ pub fn judge(declared: &Declared) -> Result<Graph, Refusal> {
         edges: edges.clone(),
     };
     refuse_if(11, has_cycle(&graph))?;
-    refuse_if(12, !has_one_source_and_one_sink(&graph))?;
     Ok(graph)
-}
-
-fn has_one_source_and_one_sink(graph: &Graph) -> bool {
-    let count_empty = |lists: Vec<Vec<usize>>| lists.iter().filter(|l| l.is_empty()).count();
-    count_empty(graph.predecessors()) == 1 && count_empty(graph.successors()) == 1
 }

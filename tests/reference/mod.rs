@@ -6,7 +6,7 @@
 //!
 //!   refusal   a number and a place
 //!   graph     an accepted graph
-//!   judge     numbers 4 to 12, over what a file or the writer's lists declare
+//!   judge     numbers 4 to 11, over what a file or the writer's lists declare
 //!   reader    numbers 1 to 3, then judge; writer   number 13, then judge, then 15
 //!   order     cycle and topological order
 //!   bounds    OLD-B, NEW-B-1 and the least path

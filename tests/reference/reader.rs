@@ -1,4 +1,4 @@
-//! From the file's bytes to a graph: numbers 1 to 3 here, 4 to 12 by the judge.
+//! From the file's bytes to a graph: numbers 1 to 3 here, 4 to 11 by the judge.
 
 use super::graph::{Graph, LONGEST_FILE, RECORD};
 use super::judge::{judge, Declared, DeclaredKind, DeclaredVertex};

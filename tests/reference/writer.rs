@@ -1,4 +1,4 @@
-//! From lists to the file: 13 first, then 4 to 12 with the places the records would have had, then 15.
+//! From lists to the file: 13 first, then 4 to 11 with the places the records would have had, then 15.
 
 use super::graph::{Graph, RECORD};
 use super::judge::{judge, Declared, DeclaredKind, DeclaredVertex};

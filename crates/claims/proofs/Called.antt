@@ -42,7 +42,7 @@ use Rattle.codes.specs.declared.PlannerFinish.{PlannerFinish}
 use Rattle.claims.specs.Claims.{Bytes, IsAccepted, graphIn, RunLent}
 use Rattle.claims.specs.Entries.{ReadGives, WriteGives, BoundsGives, PathGives, StartGives, TickGives, TickInPlaceGives, RunGives, PlannerReadGives, PlannerWriteGives, PlannerBoundsGives, PlannerPathGives, PlannerStartGives, PlannerTickGives, PlannerTickInPlaceGives, PlannerRunGives}
 use Rattle.claims.proofs.Entries as given
-use Rattle.claims.proofs.Numbers.{read-above, run-above}
+use Rattle.claims.proofs.Numbers.{read-says, run-says}
 use Rattle.claims.proofs.Running.{finish-told, run-lent}
 use Rattle.claims.proofs.Ending as ending
 
@@ -108,7 +108,7 @@ module _ {s : List ℕ} (bytes : Bytes s) {r : PlannerBounds} (C : PlannerBounds
   taken : IsAccepted s
   taken =
       let b = coded .of .answer in
-      sym b ∙ accepted-at-zero (coded .bounded .answer) (λ x e. read-above s x (sym b ∙ e)) (sym (ap (λ (r : PlannerBounds). r .number) (coded .coded)) ∙ fine)
+      sym b ∙ accepted-at-zero (coded .bounded .answer) (λ x e. read-says s x (sym b ∙ e) .above) (sym (ap (λ (r : PlannerBounds). r .number) (coded .coded)) ∙ fine)
 
   new-is : r .new ≡ coded .bounded .new .0
   new-is = ap (λ (r : PlannerBounds). r .new) (coded .coded)
@@ -127,7 +127,7 @@ module _ {s : List ℕ} (bytes : Bytes s) {r : PlannerBounds} (C : PlannerBounds
   pub called-run-below-new : {e old new : List ℕ} {p : PlannerFinish} → PlannerRunGives s e old p new → p .number ≡ 0 → p .finish * PARTS ≤ r .new
   called-run-below-new {e} {old} {p = p} h z =
       let g = given.planner-run-given h .0 in
-      let E = ended-at-zero (playOf s e (length old)) (run-above s e (length old)) (sym (ap (λ (p : PlannerFinish). p .number) g) ∙ z) in
+      let E = ended-at-zero (playOf s e (length old)) (λ x q. run-says s e (length old) x q .above) (sym (ap (λ (p : PlannerFinish). p .number) g) ∙ z) in
       let R = finish-told s e (length old) (E .at) (E .is) in
       rw (new-is, ap (λ (p : PlannerFinish). p .finish) g ∙ E .value ∙ R .finish) (ending.finish-below-new s bytes taken (coded .bounded) (coded .of) e (R .fit))
 
@@ -136,5 +136,5 @@ module _ {s : List ℕ} (bytes : Bytes s) {r : PlannerBounds} (C : PlannerBounds
 pub called-run-is : {s e old new : List ℕ} {p : PlannerFinish} → Bytes s → PlannerRunGives s e old p new → p .number ≡ 0 → RunLent s e old new (p .finish)
 called-run-is {s} {e} {old} bytes h z =
     let g = given.planner-run-given h in
-    let E = ended-at-zero (playOf s e (length old)) (run-above s e (length old)) (sym (ap (λ (p : PlannerFinish). p .number) (g .0)) ∙ z) in
+    let E = ended-at-zero (playOf s e (length old)) (λ x q. run-says s e (length old) x q .above) (sym (ap (λ (p : PlannerFinish). p .number) (g .0)) ∙ z) in
     rw (g .1, ap (λ (p : PlannerFinish). p .finish) (g .0) ∙ E .value) (run-lent s e old (E .at) bytes (E .is))

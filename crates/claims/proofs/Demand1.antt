@@ -62,7 +62,7 @@ read-answers {s} h = rw (read-given h) (read-answered s)
 answer-of : {s : List ℕ} {t : Taken} → ReadGives s t → t .answer ≡ readOf s .answer
 answer-of h = ap (λ (t : Taken). t .answer) (read-given h)
 
--- THEOREM. A file is accepted exactly where no number up to 10 applies, its edges hold no cycle, and it has one source and one sink.
+-- THEOREM. A file is accepted exactly where no number up to 10 applies and its edges hold no cycle.
 pub accepted-exactly : {s : List ℕ} {t : Taken} → Bytes s → ReadGives s t → (t .answer ≡ Accepted) ↔ Sound s
 unfolding readOf
 accepted-exactly {s} bytes h = rw (answer-of h) (sound-judged s bytes)
@@ -72,7 +72,7 @@ pub cycle-exactly : {s : List ℕ} {t : Taken} → Bytes s → ReadGives s t →
 unfolding readOf
 cycle-exactly {s} bytes h = rw (answer-of h) (cycle-judged s bytes)
 
--- THEOREM. The writer gives 13 where types and WCETs differ in length; then 4 to 12, the lowest that applies to the file that the lists would
+-- THEOREM. The writer gives 13 where types and WCETs differ in length; then 4 to 11, the lowest that applies to the file that the lists would
 -- give, with its first place there; then 15 where the room is shorter than that file. A refused write leaves the room as it was.
 pub write-answers : {g : Lists} {old new : List ℕ} {w : Wrote} → WriteGives g old w new → WriteAnswered g old w new
 write-answers {g} {old} h = let e = write-given h in rw (e .0, e .1) (write-answered g old)
@@ -185,24 +185,24 @@ module _ {s : List ℕ} {t : Taken} (R : ReadGives s t) (ok : t .answer ≡ Acce
 
 -- THEOREM. In document 01's numbers, number 0 is given exactly where nothing is refused.
 pub read-zero : {s : List ℕ} {t : Taken} → ReadGives s t → (ofAnswer (t .answer) .number ≡ 0) ↔ ((x : Refusal) → t .answer ≡ Refused x → ⊥)
-read-zero {s} {t} h = numbers.zero-answer (t .answer) (λ x e. numbers.read-above s x (sym (answer-of h) ∙ e))
+read-zero {s} {t} h = numbers.zero-answer (t .answer) (λ x e. numbers.read-says s x (sym (answer-of h) ∙ e) .above)
 
 pub write-zero : {g : Lists} {old new : List ℕ} {w : Wrote} → WriteGives g old w new → (ofWrote w .number ≡ 0) ↔ ((x : Refusal) → w ≡ NotWritten x → ⊥)
-write-zero {w = w} h = numbers.zero-wrote w (numbers.write-above (write-answers h))
+write-zero {w = w} h = numbers.zero-wrote w (λ x e. numbers.write-says (write-answers h) x e .above)
 
 pub bounds-zero : {s : List ℕ} {b : Bounded} → BoundsGives s b → (ofAnswer (b .answer) .number ≡ 0) ↔ ((x : Refusal) → b .answer ≡ Refused x → ⊥)
-bounds-zero {s} {b} h = numbers.zero-answer (b .answer) (λ x e. numbers.read-above s x (sym (bounds-given h .answer) ∙ e))
+bounds-zero {s} {b} h = numbers.zero-answer (b .answer) (λ x e. numbers.read-says s x (sym (bounds-given h .answer) ∙ e) .above)
 
 pub path-zero : {s old new : List ℕ} {p : Pathed} → PathGives s old p new → (ofPathed p .number ≡ 0) ↔ ((x : Refusal) → p ≡ NoPath x → ⊥)
-path-zero {p = p} h = numbers.zero-pathed p (numbers.path-above (path-given h))
+path-zero {p = p} h = numbers.zero-pathed p (λ x e. numbers.path-says (path-given h) x e .above)
 
 pub start-zero : {s e : List ℕ} {r : Started} → StartGives s e r → (ofAnswer (r .answer) .number ≡ 0) ↔ ((x : Refusal) → r .answer ≡ Refused x → ⊥)
 start-zero {s} {e} {r} h =
-    numbers.zero-answer (r .answer) (λ x q. numbers.start-above s e x (sym (ap (λ (r : Started). r .answer) (start-given h)) ∙ q))
+    numbers.zero-answer (r .answer) (λ x q. numbers.start-says s e x (sym (ap (λ (r : Started). r .answer) (start-given h)) ∙ q) .above)
 
 pub tick-zero : {s : List ℕ} {r : Run} {y : Ticked} → TickGives s r y → (ofReport (y .report) .number ≡ 0) ↔ ((x : Refusal) → y .report ≡ NoTick x → ⊥)
 tick-zero {s} {r} {y} h =
-    numbers.zero-report (y .report) (λ x q. numbers.tick-above s r x (sym (ap (λ (y : Ticked). y .report) (tick-given h)) ∙ q))
+    numbers.zero-report (y .report) (λ x q. numbers.tick-says s r x (sym (ap (λ (y : Ticked). y .report) (tick-given h)) ∙ q) .above)
 
 pub run-zero : {s e old new : List ℕ} {p : Played} → RunGives s e old p new → (ofPlayed p .number ≡ 0) ↔ ((x : Refusal) → p ≡ NoRun x → ⊥)
-run-zero {s} {e} {old} {p = p} h = numbers.zero-played p (λ x q. numbers.run-above s e (length old) x (sym (run-given h .0) ∙ q))
+run-zero {s} {e} {old} {p = p} h = numbers.zero-played p (λ x q. numbers.run-says s e (length old) x (sym (run-given h .0) ∙ q) .above)

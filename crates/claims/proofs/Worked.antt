@@ -8,7 +8,7 @@ use lib.Dec.{ltb}
 use lib.ListN.{length, getD}
 use borrow.Author.Tests.{ltb-true}
 use Rattle.model.specs.Places.{first, count, any, every, table, padded, sum, largest}
-use Rattle.model.specs.Graph.{Graph, WellFormed, source, sink}
+use Rattle.model.specs.Graph.{Graph, WellFormed, source}
 use Rattle.model.specs.Cycle.{Acyclic, walks, cyclic}
 use Rattle.model.specs.Bounds.{PARTS, vol, volume, used, mostCores, scaled}
 use Rattle.model.specs.ListSchedule.{finishedWithin, finished, ready, goesOn, waits, chosen, leap, steps}
@@ -17,7 +17,7 @@ use Rattle.model.proofs.Bools.{left-of, right-of}
 use Rattle.model.proofs.Rankings.{manyBefore, rankingOf, ranking-computed}
 use Rattle.graph.specs.File.{wordAt, keyAt, order, isOrder, many, ordinal, column, words, keys, graphOf}
 use Rattle.graph.specs.Model.{from, to, joins, asModel}
-use Rattle.graph.specs.Rules.{rule1, rule2, rule3, rule4, rule5, rule6, rule7, rule8, rule9, rule10, rule11, rule12, holds, places}
+use Rattle.graph.specs.Rules.{rule1, rule2, rule3, rule4, rule5, rule6, rule7, rule8, rule9, rule10, rule11, holds, places}
 use Rattle.graph.specs.Judge.{placeOf, applies, lowest, judgeFrom, readOf}
 use Rattle.graph.proofs.Accepted.{taken}
 use Rattle.paths.proofs.Computed.{aheadWithin, aheadOf, greatestOf, headOf, nextOf, stepsOf, leastOf}
@@ -74,7 +74,7 @@ gained s {gain} b a m c r =
 
 -- THEOREM. Cases A to L, and those of the orders.
 pub cases : worked.All worked.Right worked.rows
-unfolding first count any every table padded sum largest source sink walks cyclic vol volume used mostCores scaled finishedWithin finished ready goesOn waits chosen leap steps wordAt keyAt order isOrder many ordinal column words keys graphOf from to joins asModel rule1 rule2 rule3 rule4 rule5 rule6 rule7 rule8 rule9 rule10 rule11 rule12 holds places placeOf applies lowest judgeFrom readOf aheadWithin aheadOf greatestOf headOf nextOf stepsOf leastOf oldOf newOf pathOf tooLong judgeTimes startedOn startOf doneAt finishAt finishOf playIn playOn playOf finishesOf gainOf comes manyBefore rankingOf
+unfolding first count any every table padded sum largest source walks cyclic vol volume used mostCores scaled finishedWithin finished ready goesOn waits chosen leap steps wordAt keyAt order isOrder many ordinal column words keys graphOf from to joins asModel rule1 rule2 rule3 rule4 rule5 rule6 rule7 rule8 rule9 rule10 rule11 holds places placeOf applies lowest judgeFrom readOf aheadWithin aheadOf greatestOf headOf nextOf stepsOf leastOf oldOf newOf pathOf tooLong judgeTimes startedOn startOf doneAt finishAt finishOf playIn playOn playOf finishesOf gainOf comes manyBefore rankingOf
 cases = (
   computed worked.fileA refl refl refl refl refl refl,
   (
@@ -99,7 +99,7 @@ cases = (
                       gained worked.twoEqual refl refl refl (refl, (refl, (refl, (refl, tt)))) refl,
                       (
                         gained worked.chain refl refl refl (refl, (refl, (refl, tt))) refl,
-                        (refl, (refl, (refl, (refl, (refl, (refl, (computed _ refl refl refl refl refl refl, (computed _ refl refl refl refl refl refl, tt)))))))),
+                        (refl, (refl, (refl, (computed _ refl refl refl refl refl refl, (refl, (refl, (computed _ refl refl refl refl refl refl, (computed _ refl refl refl refl refl refl, tt)))))))),
                       ),
                     ),
                   ),

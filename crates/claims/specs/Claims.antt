@@ -11,7 +11,7 @@
 --   Answered s t               the reader's answer: it accepts, where no number applies; or it says no with the lowest number that applies
 --                              and the first place it holds for, and the graph beside it is zero throughout
 --   Sound s                    what an accepted file is, in the model's words
---   WriteAnswered g old w new  the writer's answer: 13, then 4 to 12, with the places that the records would have had, then 15; each leaves
+--   WriteAnswered g old w new  the writer's answer: 13, then 4 to 11, with the places that the records would have had, then 15; each leaves
 --                              the room as it was. Else the file, and past it what stood there
 --   PathLent s old new n       the list new, which was old, begins with the n vertices of the file's path and is otherwise as it was
 --   GainsLent G old new n      the list new, which was old, has the gain of each vertex of G, n of them, in its first places, and is otherwise
@@ -23,14 +23,13 @@ use mathlib.Core.Bool.{false}
 use mathlib.Core.List.{List, _++_}
 use Prim.Native.Nat.{ℕ, _≤_, _<_}
 use lib.ListN.{getD, length, drop}
-use Rattle.model.specs.Places.{count}
-use Rattle.model.specs.Graph.{Graph, source, sink}
+use Rattle.model.specs.Graph.{Graph}
 use Rattle.model.specs.Cycle.{Walk, Acyclic}
 use Rattle.model.specs.Bounds.{ThePath}
 use Rattle.model.specs.Gain.{GainOf}
 use Rattle.model.specs.Schedule.{Schedule, FinishOf, Finish}
 use Rattle.model.specs.ListSchedule.{begin, steps, listSchedule}
-use Rattle.graph.specs.File.{many, graphOf, noGraph}
+use Rattle.graph.specs.File.{graphOf, noGraph}
 use Rattle.graph.specs.Model.{asModel}
 use Rattle.graph.specs.Rules.{holds, places}
 use Rattle.graph.specs.Judge.{readOf, Rightly}
@@ -74,20 +73,18 @@ abbrev pub Closed : Graph → Type 0
 Closed G = (v : ℕ) × Walk G v v
 
 pub data Answered (s : List ℕ) (t : Taken) : Type 0 where
-  taken : t .answer ≡ Accepted → NoneFrom 1 13 s → t .graph ≡ graphOf s → Answered s t
+  taken : t .answer ≡ Accepted → NoneFrom 1 12 s → t .graph ≡ graphOf s → Answered s t
   refused : {r : Refusal} → t .answer ≡ Refused r → Rightly 1 s r → t .graph ≡ noGraph → Answered s t
 
 pub record Sound (s : List ℕ) : Type 0 where
   pub in-form : NoneFrom 1 11 s
   pub acyclic : Acyclic (drawnIn s)
-  pub one-source : count (source (drawnIn s)) (many s 1) ≡ 1
-  pub one-sink : count (sink (drawnIn s)) (many s 1) ≡ 1
 
 pub data WriteAnswered (g : Lists) (old : List ℕ) : Wrote → List ℕ → Type 0 where
   unlike : (length (g .kinds) ≡ length (g .wcets) → ⊥) → WriteAnswered g old (NotWritten (at-0 13)) old
   refused : {r : Refusal} → length (g .kinds) ≡ length (g .wcets) → Rightly 4 (fileOf g) r → WriteAnswered g old (NotWritten r) old
-  narrow : length (g .kinds) ≡ length (g .wcets) → NoneFrom 4 13 (fileOf g) → length old < length (fileOf g) → WriteAnswered g old (NotWritten (at-0 15)) old
-  wrote : length (g .kinds) ≡ length (g .wcets) → NoneFrom 4 13 (fileOf g) → length (fileOf g) ≤ length old
+  narrow : length (g .kinds) ≡ length (g .wcets) → NoneFrom 4 12 (fileOf g) → length old < length (fileOf g) → WriteAnswered g old (NotWritten (at-0 15)) old
+  wrote : length (g .kinds) ≡ length (g .wcets) → NoneFrom 4 12 (fileOf g) → length (fileOf g) ≤ length old
       → WriteAnswered g old (Wrote-bytes (length (fileOf g))) (fileOf g ++ drop (length (fileOf g)) old)
 
 pub record PathLent (s old new : List ℕ) (n : ℕ) : Type 0 where

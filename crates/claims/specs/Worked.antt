@@ -130,9 +130,9 @@ rows =
     -- G: empty; H: seven bytes
     ∷ no-file [] 4 0
     ∷ no-file (0x54 ∷ 0 ∷ 2 ∷ 0 ∷ 0 ∷ 0 ∷ 0 ∷ []) 1 0
-    -- I: A with 3-0 added last; J: A without 0-2; K: A with 0-1 twice
+    -- I: A with 3-0 added last; J: A without 0-2, which order 3 accepts; K: A with 0-1 twice
     ∷ no-file (withEdges 2 (edgesA ++ edge 3 0)) 11 0
-    ∷ no-file (withEdges 2 (edge 0 1 ++ edge 1 3 ++ edge 2 3)) 12 0
+    ∷ bounds (withEdges 2 (edge 0 1 ++ edge 1 3 ++ edge 2 3)) 14174160 13693680 19 (0 ∷ 1 ∷ 3 ∷ [])
     ∷ no-file (withEdges 2 (edge 0 1 ++ edgesA)) 10 7
     -- L: times 4, 10, 6, 3 on A
     ∷ no-start fileA (4 ∷ 10 ∷ 6 ∷ 3 ∷ []) 14 1

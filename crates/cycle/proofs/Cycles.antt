@@ -1,11 +1,12 @@
 -- Everyone in the line has told its successors. Where the line has all the vertices, it goes along the edges, and no walk is as long as
 -- the line. Where somebody is left, it waits for another who is left, and so on: there are walks of every length, so there is a cycle.
-use mathlib.Core.Path.{_≡_, refl, sym, ap}
+use mathlib.Core.Path.{_≡_, refl, sym, ap, subst, _∙_}
 use mathlib.Core.Logic.{⊎-elim}
 use mathlib.Core.List.{List}
 use mathlib.Core.Bool.{true, false, not, _&&_}
 use Prim.Native.Nat.{ℕ, zero, suc, _≤_, _<_, zero-le}
 use native.Mathlib.Omega.{arith}
+use native.Mathlib.Decide.{ℕ-discrete}
 use lib.Dec.{eqb, ltb}
 use lib.ListN.{getD}
 use borrow.Author.Tests.{eq-eqb, ne-eqb, eqb-true, lt-ltb, not-false}
@@ -18,14 +19,14 @@ use Rattle.graph.specs.Model.{from, to, asModel}
 use Rattle.graph.proofs.Edges.{edge-at, edge-place}
 use Rattle.starts.specs.Starts.{comesFrom, leadsTo, Rows, Ordered}
 use Rattle.waiting.specs.Waiting.{entering}
-use Rattle.cycle.specs.Last.{drawn}
+use Rattle.cycle.specs.Drawn.{drawn}
 use Rattle.cycle.specs.Line.{free, due, untold, Line}
 use Rattle.cycle.proofs.Line.{stands-at, stands-once, told-of, line-known, waits-known}
 
 -- ---- nobody is left
 
 module _ {l : List ℕ} {m n : ℕ} {starts : List ℕ} (R : Rows l m n starts) {w o : List ℕ} (L : Line l m n w o n n) where
-  pub line-ordered : Ordered l m n o
+  line-ordered : Ordered l m n o
   line-ordered = record {
     size = L .size;
     known = line-known R L;
@@ -70,7 +71,7 @@ module _ {l : List ℕ} {m n : ℕ} {o : List ℕ} (O : Ordered l m n o) where
       let e = edge-place (drawn l n m) (s .0) v (s .1) in
       omega (arith, O .later (e .place) (e .within), ap (O .place) (e .is-from), ap (O .place) (e .is-to), walk-places r (s .0) (s .2))
 
-  pub ordered-acyclic : cyclic (asModel (drawn l n m)) ≡ false
+  ordered-acyclic : cyclic (asModel (drawn l n m)) ≡ false
   unfolding cyclic asModel drawn
   ordered-acyclic = any-none (walks (asModel (drawn l n m)) n) n (λ v h. not-true (walks (asModel (drawn l n m)) n v) (λ t. omega (arith, walk-places n v t, O .within v h)))
 
@@ -104,9 +105,20 @@ module _ {l : List ℕ} {m n : ℕ} {starts : List ℕ} (R : Rows l m n starts) 
       rw (← i .2) (any-intro (λ u. G .edge u (leadsTo l (i .0)) && walks G r u) (G .n) u (unfold asModel drawn in R .from-known (i .0) (i .1))
       (both (G .edge u (leadsTo l (i .0))) (walks G r u) (unfold drawn from to in edge-at (drawn l n m) (i .0) (i .1)) (walks-left r u (i .3))))
 
-  pub left-cyclic : (k ≡ n → ⊥) → cyclic (asModel (drawn l n m)) ≡ true
+  left-cyclic : (k ≡ n → ⊥) → cyclic (asModel (drawn l n m)) ≡ true
   unfolding cyclic asModel drawn
   left-cyclic e =
       let v = some-counted (λ v. not (free w v)) 128 (omega (arith, L .rest, e)) in
       let f = not-is-true (free w (v .0)) (v .2) in
       any-intro (walks (asModel (drawn l n m)) n) n (v .0) (waits-within (v .0) f) (walks-left n (v .0) f)
+
+  -- ---- either
+
+  pub left-tells : (not (eqb k n) ≡ cyclic (asModel (drawn l n m))) × (not (eqb k n) ≡ false → Ordered l m n o)
+  left-tells = go (ℕ-discrete k n)
+    where
+      go : Dec (k ≡ n) → (not (eqb k n) ≡ cyclic (asModel (drawn l n m))) × (not (eqb k n) ≡ false → Ordered l m n o)
+      go (yes e) =
+          let O = line-ordered R (subst (λ (x : ℕ). Line l m n w o x x) e L) in
+          (ap not (eq-eqb k n e) ∙ sym (ordered-acyclic O), λ q. O)
+      go (no e) = (ap not (ne-eqb k n e) ∙ sym (left-cyclic e), λ q. absurd (clash (ap not (ne-eqb k n e)) q))

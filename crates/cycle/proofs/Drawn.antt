@@ -2,26 +2,17 @@
 use mathlib.Core.Path.{_≡_, refl, ap}
 use mathlib.Core.Bool.{Bool, _&&_}
 use Prim.Native.Nat.{ℕ, zero, suc}
-use Rattle.model.specs.Graph.{source, sink}
 use Rattle.model.specs.Cycle.{walks, cyclic}
 use Rattle.model.proofs.Places.{any-ext}
 use Rattle.graph.specs.Model.{from, to, joins, asModel}
 use Rattle.graph.specs.declared.Graph.{Graph}
-use Rattle.cycle.specs.Last.{astray, lastOf, drawn}
+use Rattle.cycle.specs.Drawn.{drawn}
 
 drawn-walks : (g : Graph) (r v : ℕ) → walks (asModel (drawn (g .edge) (g .n) (g .edges))) r v ≡ walks (asModel g) r v
 unfolding drawn walks asModel joins from to
 drawn-walks g zero v = refl
 drawn-walks g (suc r) v = any-ext _ _ (g .n) (λ u l. ap (λ (b : Bool). asModel g .edge u v && b) (drawn-walks g r u))
 
-drawn-cyclic : (g : Graph) → cyclic (asModel (drawn (g .edge) (g .n) (g .edges))) ≡ cyclic (asModel g)
+pub drawn-cyclic : (g : Graph) → cyclic (asModel (drawn (g .edge) (g .n) (g .edges))) ≡ cyclic (asModel g)
 unfolding drawn cyclic asModel
 drawn-cyclic g = any-ext _ _ (g .n) (λ v l. drawn-walks g (g .n) v)
-
-drawn-astray : (g : Graph) → astray (drawn (g .edge) (g .n) (g .edges)) ≡ astray g
-unfolding astray drawn source sink asModel joins from to
-drawn-astray g = refl
-
-pub drawn-last : (g : Graph) → lastOf (drawn (g .edge) (g .n) (g .edges)) ≡ lastOf g
-unfolding lastOf
-drawn-last g = rw (drawn-cyclic g, drawn-astray g) refl

@@ -2,6 +2,5 @@
 pub mod Drawn
 pub mod Telling
 pub mod Line
-pub mod Ends
 pub mod Cycles
 pub mod Outcomes

@@ -1,3 +1,3 @@
-pub mod Last
+pub mod Drawn
 -- What only private functions speak of.
 pub mod Line

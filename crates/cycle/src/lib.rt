@@ -1,16 +1,17 @@
-// Numbers 11 and 12, of an edge list: cycles, sources and sinks.
+// Number 11, of an edge list: cycles.
 //
 // A vertex is taken up once nobody who leads to it is left: at first those that nobody leads to. Whoever is taken up tells its successors,
 // so that each edge is looked at once. On a cycle everyone waits for another, also where no source reaches it: so there is a cycle just
 // where somebody is never taken up. Where nobody is left, the order in which they were taken up goes along the edges.
 ghost use mathlib.Core.Path.{_≡_};
-ghost use Prim.Native.Nat.{ℕ, _+_, _≤_, _<_};
-ghost use lib.Dec.{eqb};
+ghost use mathlib.Core.Bool.{false};
+ghost use Prim.Native.Nat.{ℕ, _≤_, _<_};
 ghost use lib.ListN.{getD, length};
-ghost use Rattle.model.specs.Places.{count};
+ghost use Rattle.model.specs.Cycle as model;
+ghost use Rattle.graph.specs.Model.{asModel};
 ghost use Rattle.starts.specs.Starts.{leadsTo, Rows, Ordered};
 ghost use Rattle.waiting.specs.Waiting.{leading, edgesBy};
-ghost use Rattle.cycle.specs.Last.{drawn, lastOf};
+ghost use Rattle.cycle.specs.Drawn.{drawn};
 ghost use Rattle.cycle.specs.Line.{everyone, Unled, Told, Line};
 
 // The vertices that nobody leads to come first.
@@ -84,44 +85,21 @@ fn take_up(
     found
 }
 
-// How many vertices no edge comes from: their edges end where they begin.
-fn sinks(starts: &[u16; 129], n: usize) -> usize
-    requires { ⌜ n ≤ 128 ⌝ }
-    ensures { λ r. ⌜ r ≡ count (λ u. eqb (getD (now (starts .entry)) u 0) (getD (now (starts .entry)) (u + 1) 0)) n ⌝ }
-{
-    let mut found: usize = 0;
-    let mut u: usize = 0;
-    while u < n {
-        if starts[u] == starts[u + 1] {
-            found += 1;
-        }
-        u += 1;
-    }
-    found
-}
-
-// The number of these two that applies, or 13 where none does. Then `order` has the vertices in an order along the edges.
-pub fn last_number(
+// Number 11: whether the edges hold a cycle. Where they hold none, `order` has the vertices in an order along them.
+pub fn cyclic(
     edge: &[u16; 1024],
     starts: &[u16; 129],
     n: usize,
     edges: usize,
     order: &mut [u8; 128],
-) -> u32
+) -> bool
     requires { ⌜ Rows (now edge) edges n (now starts) ⌝ }
     requires { ⌜ length (now order) ≡ 128 ⌝ }
-    ensures { λ r. ⌜ r ≡ lastOf (drawn (now (edge .entry)) n edges) ⌝ }
-    ensures { λ r. ⌜ (r ≡ 13 → Ordered (now (edge .entry)) edges n (now (order .exit))) ⌝ }
+    ensures { λ r. ⌜ r ≡ model.cyclic (asModel (drawn (now (edge .entry)) n edges)) ⌝ }
+    ensures { λ r. ⌜ (r ≡ false → Ordered (now (edge .entry)) edges n (now (order .exit))) ⌝ }
 {
     let mut waiting = waiting::counted(edge, starts[128]);
-    let sources = unled(&waiting, n, order);
-    let found = take_up(edge, starts, &mut waiting, order, sources);
-    if found != n {
-        return 11;
-    }
-    if (sources != 1) | (sinks(starts, n) != 1) {
-        12
-    } else {
-        13
-    }
+    let first = unled(&waiting, n, order);
+    let found = take_up(edge, starts, &mut waiting, order, first);
+    found != n
 }

@@ -50,17 +50,13 @@ pub const ITSELF: usize = 20;
 
 pub const CYCLE: usize = 21;
 
-pub const SECOND_START: usize = 22;
+pub const TIME: usize = 22;
 
-pub const SECOND_END: usize = 23;
+pub const KINDS_NONE: usize = 23;
 
-pub const TIME: usize = 24;
+pub const STAGES_NONE: usize = 24;
 
-pub const KINDS_NONE: usize = 25;
-
-pub const STAGES_NONE: usize = 26;
-
-pub const ABSENT: usize = 27;
+pub const ABSENT: usize = 25;
 
 // The row that says it, and the place in the text of the word that it is about.
 pub struct Fault {

@@ -9,7 +9,6 @@ use lib.Dec.{eqb}
 use lib.ListN.{getD, length, set}
 use lib.Seq.{getD-set-other}
 use Rattle.model.specs.Places.{pick, padded}
-use Rattle.model.specs.Graph.{source, sink}
 use Rattle.model.specs.Bounds.{scaled}
 use Rattle.model.specs.Gain.{withWcet}
 use Rattle.model.proofs.Bools.{le-or-lt}
@@ -86,7 +85,7 @@ module _ {h : Header} {c k w e st o : List ℕ} (R : Usable h c k w e st o) (v x
   module _ (low : x ≤ 1000000) where
     -- THEOREM. It is accepted again.
     pub stored-usable : Usable h c k (set w v x) e st o
-    unfolding asModel source sink joins from to
+    unfolding asModel joins from to
     stored-usable = record {
       accepted = record {
         few-kinds = A .few-kinds;
@@ -99,8 +98,6 @@ module _ {h : Header} {c k w e st o : List ℕ} (R : Usable h c k w e st o) (v x
         from-known = A .from-known;
         to-known = A .to-known;
         ascending = A .ascending;
-        one-source = A .one-source;
-        one-sink = A .one-sink;
         kind-past = A .kind-past;
         wcet-past = λ u l. getD-set-other w v u x 0 (λ q. omega arith) ∙ A .wcet-past u l;
       };

@@ -10,9 +10,8 @@ use Prim.Native.Nat.{ℕ, suc, _+_, _-_, _*_, _≤_, _<_}
 use native.Mathlib.Omega.{arith}
 use lib.Dec.{eqb, ltb, leb, lit<, lit≤}
 use lib.ListN.{getD}
-use borrow.Author.Tests.{ltb-false, leb-false, eqb-true, eqb-false, not-false, lt-ltb}
-use Rattle.model.specs.Places.{count}
-use Rattle.model.specs.Graph.{Edge, WellFormed, source, sink}
+use borrow.Author.Tests.{ltb-false, leb-false, eqb-true, eqb-false, lt-ltb}
+use Rattle.model.specs.Graph.{Edge, WellFormed}
 use Rattle.model.specs.Cycle.{Acyclic}
 use Rattle.model.proofs.Bools.{or-neither, left-of, right-of}
 use Rattle.model.proofs.Places.{any-elim}
@@ -20,7 +19,7 @@ use Rattle.model.proofs.Tables.{padded-at, padded-past}
 use Rattle.model.proofs.Cycles.{acyclic-test}
 use Rattle.graph.specs.File.{records, byteAt, wordAt, keyAt, order, many, column, words, keys, graphOf}
 use Rattle.graph.specs.Model.{from, to, joins, asModel, AcceptedGraph}
-use Rattle.graph.specs.Rules.{holds, places, rule2, rule3, rule4, rule5, rule6, rule7, rule8, rule9, rule10, rule11, rule12}
+use Rattle.graph.specs.Rules.{holds, places, rule2, rule3, rule4, rule5, rule6, rule7, rule8, rule9, rule10, rule11}
 use Rattle.graph.specs.Judge.{judgeFrom, Rightly, readOf}
 use Rattle.graph.specs.declared.Refusal.{Refusal}
 use Rattle.graph.specs.declared.Answer.the-variants.{Accepted, Refused}
@@ -168,7 +167,7 @@ module _ (s : List ℕ) (bytes : (i : ℕ) → getD s i 0 < 256) (quiet : (num :
 -- ---- where no number applies
 
 module _ (s : List ℕ) (bytes : (i : ℕ) → getD s i 0 < 256) (ok : judgeFrom 1 s ≡ Accepted) where
-  none : (num : ℕ) → 1 ≤ num → num < 13 → (k : ℕ) → k < places s num → holds s num k ≡ false
+  none : (num : ℕ) → 1 ≤ num → num < 12 → (k : ℕ) → k < places s num → holds s num k ≡ false
   none num f l k d = none-holds 1 s ok num f l k d
 
   quiet : (num : ℕ) → 2 ≤ num → num < 11 → (k : ℕ) → k < places s num → holds s num k ≡ false
@@ -177,18 +176,6 @@ module _ (s : List ℕ) (bytes : (i : ℕ) → getD s i 0 < 256) (ok : judgeFrom
   no-cycle : Acyclic (asModel (graphOf s))
   unfolding places holds rule11
   no-cycle = acyclic-test (well-formed s bytes quiet) (none 11 (lit≤ tt) (lit< tt) 0 (lit< tt))
-
-  one-source : count (source (asModel (graphOf s))) (many s 1) ≡ 1
-  unfolding places holds rule12
-  one-source =
-      let x = or-neither (not (eqb (count (source (asModel (graphOf s))) (many s 1)) 1)) _ (none 12 (lit≤ tt) (lit< tt) 0 (lit< tt)) in
-      eqb-true (count (source (asModel (graphOf s))) (many s 1)) 1 (not-false (eqb (count (source (asModel (graphOf s))) (many s 1)) 1) (x .0))
-
-  one-sink : count (sink (asModel (graphOf s))) (many s 1) ≡ 1
-  unfolding places holds rule12
-  one-sink =
-      let x = or-neither (not (eqb (count (source (asModel (graphOf s))) (many s 1)) 1)) (not (eqb (count (sink (asModel (graphOf s))) (many s 1)) 1)) (none 12 (lit≤ tt) (lit< tt) 0 (lit< tt)) in
-      eqb-true (count (sink (asModel (graphOf s))) (many s 1)) 1 (not-false (eqb (count (sink (asModel (graphOf s))) (many s 1)) 1) (x .1))
 
   pub accepted : AcceptedGraph (graphOf s)
   unfolding graphOf
@@ -204,8 +191,6 @@ module _ (s : List ℕ) (bytes : (i : ℕ) → getD s i 0 < 256) (ok : judgeFrom
         from-known = from-known s bytes quiet;
         to-known = to-known s bytes quiet;
         ascending = ascending s bytes quiet;
-        one-source = one-source;
-        one-sink = one-sink;
         kind-past = λ v l. padded-past 128 (column s (many s 0) 2) (many s 1) v l;
         wcet-past = λ v l. padded-past 128 (words s (many s 0)) (many s 1) v l;
       }

@@ -3,7 +3,7 @@
 --
 --   placeOf s num        the first place that number num holds for, or as many as there are
 --   applies s num        number num holds for some place
---   lowest a s           the lowest number from a to 12 that applies, or 13
+--   lowest a s           the lowest number from a to 11 that applies, or 12
 --   judgeFrom a s        the answer of the numbers from a on: the reader's from 1, the writer's from 4
 --   Rightly a s r        r is the lowest number from a on that applies, with the first place that it holds for
 --   takenFrom a s        that answer, and the graph beside it
@@ -29,14 +29,14 @@ unfoldable pub applies : List ℕ → ℕ → Bool
 applies s num = ltb (placeOf s num) (places s num)
 
 unfoldable pub lowest : ℕ → List ℕ → ℕ
-lowest a s = a + first (λ i. applies s (a + i)) (13 - a)
+lowest a s = a + first (λ i. applies s (a + i)) (12 - a)
 
 unfoldable pub judgeFrom : ℕ → List ℕ → Answer
-judgeFrom a s = pick (ltb (lowest a s) 13) (Refused (record { number = lowest a s; place = placeOf s (lowest a s) })) Accepted
+judgeFrom a s = pick (ltb (lowest a s) 12) (Refused (record { number = lowest a s; place = placeOf s (lowest a s) })) Accepted
 
 pub record Rightly (a : ℕ) (s : List ℕ) (r : Refusal) : Type 0 where
   pub least : a ≤ r .number
-  pub known : r .number < 13
+  pub known : r .number < 12
   pub within : r .place < places s (r .number)
   pub there : holds s (r .number) (r .place) ≡ true
   pub not-before : (k : ℕ) → k < r .place → holds s (r .number) k ≡ false

@@ -8,8 +8,8 @@ use mathlib.Core.Bool.{Bool, _&&_}
 use Prim.Native.Nat.{ℕ, suc, _/_, _%_, _≤_, _<_}
 use lib.Dec.{eqb}
 use lib.ListN.{getD}
-use Rattle.model.specs.Places.{any, count}
-use Rattle.model.specs.Graph.{WellFormed, source, sink}
+use Rattle.model.specs.Places.{any}
+use Rattle.model.specs.Graph.{WellFormed}
 use Rattle.model.specs.Graph as model
 use Rattle.model.specs.Cycle.{Acyclic}
 use Rattle.graph.specs.declared.Graph.{Graph}
@@ -44,7 +44,5 @@ pub record AcceptedGraph (g : Graph) : Type 0 where
   pub from-known : (i : ℕ) → i < g .edges → from g i < g .n
   pub to-known : (i : ℕ) → i < g .edges → to g i < g .n
   pub ascending : (i : ℕ) → suc i < g .edges → getD (g .edge) i 0 < getD (g .edge) (suc i) 0
-  pub one-source : count (source (asModel g)) (g .n) ≡ 1
-  pub one-sink : count (sink (asModel g)) (g .n) ≡ 1
   pub kind-past : (v : ℕ) → g .n ≤ v → getD (g .kind) v 0 ≡ 0
   pub wcet-past : (v : ℕ) → g .n ≤ v → getD (g .wcet) v 0 ≡ 0

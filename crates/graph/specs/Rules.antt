@@ -1,6 +1,7 @@
--- The numbers that say no, 1 to 12, each a row of document 01's table as it stands there. `s` is the file's bytes, k a record.
+-- The numbers that say no to a file, 1 to 11, each a row of document 01's table as it stands there; row 12 went with order 3. `s` is the
+-- file's bytes, k a record.
 --
---   rule1 s .. rule12 s     the row's "given exactly when", of the whole file or of a record
+--   rule1 s .. rule11 s     the row's "given exactly when", of the whole file or of a record
 --   holds s num k           the row of number num holds for the place k
 --   places s num            how many places num is tested for: the records, or place 0 alone
 use mathlib.Core.Bool.{Bool, not, _&&_, _||_}
@@ -8,8 +9,7 @@ use mathlib.Core.List.{List}
 use Prim.Native.Nat.{ℕ, _-_, _%_}
 use lib.ListN.{length}
 use lib.Dec.{eqb, ltb, leb}
-use Rattle.model.specs.Places.{pick, count, any}
-use Rattle.model.specs.Graph.{source, sink}
+use Rattle.model.specs.Places.{pick, any}
 use Rattle.model.specs.Cycle.{cyclic}
 use Rattle.graph.specs.File.{records, byteAt, wordAt, keyAt, order, many, ordinal, graphOf}
 use Rattle.graph.specs.Model.{asModel}
@@ -62,10 +62,6 @@ rule10 s k = ltb 0 k && (eqb (order s k) 2 && (eqb (order s (k - 1)) 2 && leb (k
 unfoldable pub rule11 : List ℕ → Bool
 rule11 s = cyclic (asModel (graphOf s))
 
--- not exactly one source, or not exactly one sink
-unfoldable pub rule12 : List ℕ → Bool
-rule12 s = not (eqb (count (source (asModel (graphOf s))) (many s 1)) 1) || not (eqb (count (sink (asModel (graphOf s))) (many s 1)) 1)
-
 unfoldable pub holds : List ℕ → ℕ → ℕ → Bool
 holds s num k =
     pick (eqb num 2) (rule2 s k)
@@ -76,7 +72,7 @@ holds s num k =
     (pick (eqb num 7) (rule7 s k)
     (pick (eqb num 8) (rule8 s)
     (pick (eqb num 9) (rule9 s k)
-    (pick (eqb num 10) (rule10 s k) (pick (eqb num 11) (rule11 s) (pick (eqb num 12) (rule12 s) (rule1 s)))))))))))
+    (pick (eqb num 10) (rule10 s k) (pick (eqb num 11) (rule11 s) (rule1 s))))))))))
 
 abbrev pub perRecord : ℕ → Bool
 perRecord num = eqb num 2 || (eqb num 3 || (eqb num 5 || (eqb num 7 || (eqb num 9 || eqb num 10))))

@@ -1,5 +1,6 @@
--- Sums ahead of the vertices, each once its successors' are done:
+-- Sums ahead of the vertices, each once its successors' are done, and the source that has the largest:
 pub mod Along
+pub mod Heads
 pub mod Sums
 -- The sum of the longest path:
 pub mod Complete

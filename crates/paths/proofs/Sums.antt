@@ -1,33 +1,31 @@
 -- Why one pass along the order finds the largest sums. A table in which each sum is the largest by an edge, over what its ends have, holds the
 -- largest sums ahead: it bounds every path, by induction along the path, and going on to the end that gives the sum makes a path that
 -- attains it. From the last place of the order to the first, each sum is made so: the ends of a vertex's edges stand at later places, where
--- the sums are done, and no later store changes them.
+-- the sums are done, and no later store changes them. On the way every edge marks its end, so that at last the sources are unmarked.
 use mathlib.Core.Path.{_≡_, ap, _∙_}
-use mathlib.Core.Bool.{Bool, true}
 use mathlib.Core.List.{List, _∷_}
-use mathlib.Core.Logic.{_⊎_, inl, inr}
+use mathlib.Core.Logic.{_⊎_, inl, inr, _↔_}
 use Prim.Native.Nat.{ℕ, zero, suc, _+_, _-_, _*_, _≤_, _<_, zero-le}
 use native.Mathlib.Omega.{arith}
 use native.Mathlib.Decide.{ℕ-discrete}
 use lib.ListN.{getD, length, set, replicate, length-replicate, length-set}
 use lib.Seq.{getD-set-same, getD-set-other}
-use Rattle.model.specs.Places.{along, count}
-use Rattle.model.specs.Graph.{Edge, Source, source, WellFormed}
+use Rattle.model.specs.Places.{along}
+use Rattle.model.specs.Graph.{Edge, Source, WellFormed}
 use Rattle.model.specs.Graph as model
 use Rattle.model.specs.Cycle.{Acyclic}
 use Rattle.model.specs.Path.{ToSink, link}
 use Rattle.model.proofs.Bools.{le-or-lt}
-use Rattle.model.proofs.Places.{count-up, count-there}
 use Rattle.model.proofs.Tables.{table-at, zeros}
 use Rattle.model.proofs.Cycles.{ranked, rank-below}
-use Rattle.model.proofs.Paths.{to-sink, source-tells, unraised}
+use Rattle.model.proofs.Paths.{to-sink, unraised}
 use Rattle.graph.specs.Model.{AcceptedGraph, asModel, from, to}
 use Rattle.graph.specs.declared.Graph.{Graph}
 use Rattle.graph.proofs.Edges.{edge-at, edge-place}
 use Rattle.starts.specs.Starts.{comesFrom, firstEdge, Ordered}
 use Rattle.starts.proofs.Together.{start-within, start-below, start-above, start-later}
 use Rattle.paths.specs.Ahead.{weigh, sumAt, Light, Ahead, Summed, RowsOf, Weighed}
-use Rattle.paths.specs.Along.{goes, Given, Follows, Visitable}
+use Rattle.paths.specs.Along.{goes, Given, Follows, Visitable, NoneTo, Led, Comparable, Foremost}
 use Rattle.paths.proofs.Along.{follows-kept}
 
 -- ---- sums that follow from one another
@@ -51,22 +49,6 @@ module _ {G : model.Graph} (W : WellFormed G) (A : Acyclic G) (f s : ℕ → ℕ
   follows-ahead : (v : ℕ) → v < G .n → Ahead G f v (s v)
   follows-ahead v l =
       let t = attaining (G .n) v l (omega arith) in record { path = t .0; to-sink = t .1; attained = t .2; unexceeded = bounds v }
-
--- ---- the one source
-
-two : (p : ℕ → Bool) (n i j : ℕ) → i < j → j < n → p i ≡ true → p j ≡ true → 2 ≤ count p n
-two p n i j l m a b = omega (arith, count-up p (suc j) n m, count-there p j b, count-up p (suc i) j l, count-there p i a)
-
-only-source : {G : model.Graph} → WellFormed G → count (source G) (G .n) ≡ 1 → (u v : ℕ) → u < G .n → v < G .n → Source G u → Source G v → u ≡ v
-only-source {G} W one u v l m a b = go (le-or-lt u v) (le-or-lt v u)
-  where
-    is : (x : ℕ) → x < G .n → Source G x → source G x ≡ true
-    is = source-tells W .complete
-
-    go : (u ≤ v) ⊎ (v < u) → (v ≤ u) ⊎ (u < v) → u ≡ v
-    go (inl x) (inl y) = omega arith
-    go (inr x) y = absurd (omega (arith, one, two (source G) (G .n) v u x l (is v m b) (is u l a)))
-    go (inl x) (inr y) = absurd (omega (arith, one, two (source G) (G .n) u v y m (is u l a) (is v m b)))
 
 -- ---- the rows of an accepted graph
 
@@ -128,19 +110,23 @@ module _ {g : Graph} {e st : List ℕ} (R : RowsOf g e st) where
 
 -- ---- along the order
 
--- the sums of the vertices from place j on are done
-pub record Done (e st o : List ℕ) (n : ℕ) (w s : List ℕ) (j : ℕ) : Type 0 where
+-- the sums of the vertices from place j on are done, and whoever they lead to is marked in m
+pub record Done (e st o : List ℕ) (n : ℕ) (w s m : List ℕ) (j : ℕ) : Type 0 where
   pub size : length s ≡ 128
   pub follows : (k : ℕ) → j ≤ k → k < n → Follows e w s (getD st (getD o k 0) 0) (getD st (getD o k 0 + 1) 0) (getD s (getD o k 0) 0)
   pub small : (v : ℕ) → getD s v 0 ≤ 720720000000 * (n - j)
   pub past : (v : ℕ) → n ≤ v → getD s v 0 ≡ 0
+  pub marks : length m ≡ 128
+  pub unmarked : (v : ℕ) → (getD m v 0 ≡ 0) ↔ ((k : ℕ) → j ≤ k → k < n → NoneTo e (getD st (getD o k 0) 0) (getD st (getD o k 0 + 1) 0) v)
 
-pub done-none : (e st o : List ℕ) (n : ℕ) (w : List ℕ) → Done e st o n w (replicate 128 0) n
+pub done-none : (e st o : List ℕ) (n : ℕ) (w : List ℕ) → Done e st o n w (replicate 128 0) (replicate 128 0) n
 done-none e st o n w = record {
   size = length-replicate {A = ℕ} 128 0;
   follows = λ k l m. absurd (omega arith);
   small = λ v. omega (arith, zeros 128 v);
   past = λ v l. zeros 128 v;
+  marks = length-replicate {A = ℕ} 128 0;
+  unmarked = λ v. (λ z k l b. absurd (omega arith), λ f. zeros 128 v);
 }
 
 module _ {g : Graph} {e st o : List ℕ} {n : ℕ} {w : List ℕ} (T : Weighed g e st o n w) where
@@ -162,39 +148,45 @@ module _ {g : Graph} {e st o : List ℕ} {n : ℕ} {w : List ℕ} (T : Weighed g
       let r = row-edge (T .rows) (getD o k 0) i (known k l) a b in
       omega (arith, O .later i (r .0), ap (O .place) (comes-from (T .rows) i ∙ r .1), place-at k l)
 
-  module _ (s : List ℕ) (j k : ℕ) (next : j ≡ k + 1) (l : j ≤ n) (D : Done e st o n w s j) where
+  module _ (s m : List ℕ) (j k : ℕ) (next : j ≡ k + 1) (l : j ≤ n) (D : Done e st o n w s m j) where
     pub done-visitable : Visitable e st w s (getD o k 0)
     done-visitable =
-        visitable (T .rows) (T .light) s (720720000000 * 128) (λ v m. omega (arith, D .small v, l, T .vertices, T .rows .accepted .few-vertices)) (omega arith) (getD o k 0) (known k (omega arith))
+        visitable (T .rows) (T .light) s (720720000000 * 128) (λ v b. omega (arith, D .small v, l, T .vertices, T .rows .accepted .few-vertices)) (omega arith) (getD o k 0) (known k (omega arith))
 
     -- one place more is done: its sum is stored, and no edge from here on goes to it
-    pub done-more : (x : ℕ) → Follows e w s (getD st (getD o k 0) 0) (getD st (getD o k 0 + 1) 0) x → Done e st o n w (set s (getD o k 0) x) k
+    pub done-more : (x : ℕ) (m′ : List ℕ) → Follows e w s (getD st (getD o k 0) 0) (getD st (getD o k 0 + 1) 0) x → Led e (getD st (getD o k 0) 0) (getD st (getD o k 0 + 1) 0) m m′
+        → Done e st o n w (set s (getD o k 0) x) m′ k
     unfolding asModel
-    done-more x F = record {
+    done-more x m′ F L = record {
       size = length-set s u x ∙ D .size;
       follows = λ i a b. follows i a b (ℕ-discrete i k);
       small = λ v. small v (ℕ-discrete v u);
-      past = λ v a. getD-set-other s u v x 0 (λ q. omega (arith, q, known k m, T .vertices)) ∙ D .past v a;
+      past = λ v a. getD-set-other s u v x 0 (λ q. omega (arith, q, known k within, T .vertices)) ∙ D .past v a;
+      marks = L .size;
+      unmarked = λ v. (
+        λ z. let r = L .unmarked v .0 z in λ i a b. none-to v (r .0) (r .1) i a b (ℕ-discrete i k),
+        λ f. L .unmarked v .1 (D .unmarked v .1 (λ i a b. f i (omega (arith, a)) b), f k (omega arith) within),
+      );
     }
       where
         u : ℕ
         u = getD o k 0
 
-        m : k < n
-        m = omega arith
+        within : k < n
+        within = omega arith
 
         here : getD (set s u x) u 0 ≡ x
-        here = getD-set-same s u x 0 (omega (arith, D .size, done-vertex k m))
+        here = getD-set-same s u x 0 (omega (arith, D .size, done-vertex k within))
 
         -- the place of each vertex is its own
         own : (i : ℕ) → i < n → getD o i 0 ≡ u → i ≡ k
-        own i b q = omega (arith, ap (O .place) q, place-at i b, place-at k m)
+        own i b q = omega (arith, ap (O .place) q, place-at i b, place-at k within)
 
         apart : (i : ℕ) → k ≤ i → i < n → (h : ℕ) → getD st (getD o i 0) 0 ≤ h → h < getD st (getD o i 0 + 1) 0 → goes e h ≡ u → ⊥
-        apart i a b h c d q = omega (arith, ap (O .place) q, place-at k m, ahead i h b c d)
+        apart i a b h c d q = omega (arith, ap (O .place) q, place-at k within, ahead i h b c d)
 
         follows : (i : ℕ) → k ≤ i → i < n → Dec (i ≡ k) → Follows e w (set s u x) (getD st (getD o i 0) 0) (getD st (getD o i 0 + 1) 0) (getD (set s u x) (getD o i 0) 0)
-        follows i a b (yes q) = rw (q, here) (follows-kept e w s (getD st u 0) (getD st (u + 1) 0) u x x (apart k (omega arith) m) F)
+        follows i a b (yes q) = rw (q, here) (follows-kept e w s (getD st u 0) (getD st (u + 1) 0) u x x (apart k (omega arith) within) F)
         follows i a b (no q) =
             let v = getD o i 0 in
             rw (getD-set-other s u v x 0 (λ z. q (own i b z)))
@@ -204,55 +196,78 @@ module _ {g : Graph} {e st o : List ℕ} {n : ℕ} {w : List ℕ} (T : Weighed g
         most (inl z) = omega arith
         most (inr r) =
             let v = goes e (r .0) in
-            omega (arith, r .3, T .light v (T .rows .accepted .well-formed .to u v (row-joins (T .rows) u (r .0) (known k m) (r .1) (r .2))), D .small v)
+            omega (arith, r .3, T .light v (T .rows .accepted .well-formed .to u v (row-joins (T .rows) u (r .0) (known k within) (r .1) (r .2))), D .small v)
 
         small : (v : ℕ) → Dec (v ≡ u) → getD (set s u x) v 0 ≤ 720720000000 * (n - k)
         small v (yes q) = rw (q, here) (most (F .attained))
         small v (no q) = omega (arith, getD-set-other s u v x 0 q, D .small v)
 
-  -- at the end the table holds the largest sums ahead, and no edge leads to the first vertex of the order
-  pub done-summed : (s : List ℕ) → Done e st o n w s 0 → Summed (asModel g) (weigh w) (record { ahead = s; head = getD o 0 0 })
-  unfolding asModel
-  done-summed s D = record {
-    longest = record { size = D .size; ahead = follows-ahead W (G .acyclic) (weigh w) (λ v. getD s v 0) most attained; past = λ v l. D .past v (rw (T .vertices) l) };
-    head = record {
-      known = first;
-      is-source = is-source;
-      most = λ u l d. let z = only-source W (G .one-source) u h l first d is-source in rw z (omega arith);
-      first = λ u l d. absurd (omega (arith, only-source W (G .one-source) u h (omega (arith, first)) first d is-source));
-    };
-  }
-    where
-      R : RowsOf g e st
-      R = T .rows
+        none-to : (v : ℕ) → getD m v 0 ≡ 0 → NoneTo e (getD st u 0) (getD st (u + 1) 0) v → (i : ℕ) → k ≤ i → i < n → Dec (i ≡ k)
+            → NoneTo e (getD st (getD o i 0) 0) (getD st (getD o i 0 + 1) 0) v
+        none-to v z r i a b (yes q) = rw q r
+        none-to v z r i a b (no q) = D .unmarked v .0 z i (omega (arith, a, q)) b
 
-      G : AcceptedGraph g
-      G = R .accepted
+  -- ---- at the end
 
-      W : WellFormed (asModel g)
-      W = G .well-formed
+  module _ (s m : List ℕ) (D : Done e st o n w s m 0) where
+    -- nobody leads to an unmarked vertex
+    unmarked-source : (v : ℕ) → (getD m v 0 ≡ 0) ↔ Source (asModel g) v
+    unmarked-source v = (
+      λ z u d.
+          let r = row-of (T .rows) u v d in
+          let l = T .rows .accepted .well-formed .from u v d in
+          let f = rw (O .stands u (unfold asModel in l)) at (D .unmarked v .0 z (O .place u) zero-le (omega (arith, O .within u (unfold asModel in l), T .vertices))) in
+          f (r .0) (r .1) (r .2) (r .3),
+      λ S. D .unmarked v .1 (λ k a b i c d q. S (getD o k 0) (rw q at (row-joins (T .rows) (getD o k 0) i (known k b) c d))),
+    )
 
-      h : ℕ
-      h = getD o 0 0
+    -- no edge leads to the first vertex of the order
+    first-source : Source (asModel g) (getD o 0 0)
+    first-source u d =
+        let r = edge-place g u (getD o 0 0) d in
+        omega (arith, O .later (r .place) (r .within), ap (O .place) (goes-to (T .rows) (r .place) ∙ r .is-to), O .once 0 (T .rows .accepted .some-vertex))
 
-      first : h < g .n
-      first = O .known 0 (G .some-vertex)
+    pub done-comparable : Comparable w s m n (getD o 0 0)
+    unfolding asModel
+    done-comparable = record {
+      few = omega (arith, T .vertices, T .rows .accepted .few-vertices);
+      vertex = omega (arith, T .vertices, O .known 0 (T .rows .accepted .some-vertex));
+      unmarked = unmarked-source (getD o 0 0) .1 first-source;
+      fits = λ v l. omega (arith, T .light v (rw (T .vertices) at l), D .small v, T .vertices, T .rows .accepted .few-vertices);
+    }
 
-      follows : (u : ℕ) → u < g .n → Follows e w s (getD st u 0) (getD st (u + 1) 0) (getD s u 0)
-      follows u l = rw (O .stands u l) at (D .follows (O .place u) zero-le (omega (arith, O .within u l, T .vertices)))
+    -- the table holds the largest sums ahead, and the longest path begins at the foremost of the sources
+    pub done-summed : (h : ℕ) → Foremost w s m n h → Summed (asModel g) (weigh w) (record { ahead = s; head = h })
+    unfolding asModel
+    done-summed h F = record {
+      longest = record { size = D .size; ahead = follows-ahead W (G .acyclic) (weigh w) (λ v. getD s v 0) most attained; past = λ v l. D .past v (rw (T .vertices) l) };
+      head = record {
+        known = rw (T .vertices) at (F .vertex);
+        is-source = unmarked-source h .0 (F .unmarked);
+        most = λ u l d. F .most u (rw (T .vertices) l) (unmarked-source u .1 d);
+        first = λ u l d. F .first u l (unmarked-source u .1 d);
+      };
+    }
+      where
+        R : RowsOf g e st
+        R = T .rows
 
-      is-source : Source (asModel g) h
-      is-source u d =
-          let r = edge-place g u h d in
-          omega (arith, O .later (r .place) (r .within), ap (O .place) (goes-to R (r .place) ∙ r .is-to), O .once 0 (G .some-vertex))
+        G : AcceptedGraph g
+        G = R .accepted
 
-      most : (u v : ℕ) → Edge (asModel g) u v → weigh w v + getD s v 0 ≤ getD s u 0
-      most u v d = let r = row-of R u v d in rw (r .3) at (follows u (W .from u v d) .most (r .0) (r .1) (r .2))
+        W : WellFormed (asModel g)
+        W = G .well-formed
 
-      attained : (u : ℕ) → u < g .n → (getD s u 0 ≡ 0) ⊎ ((v : ℕ) × Edge (asModel g) u v × (getD s u 0 ≡ weigh w v + getD s v 0))
-      attained u l = go (follows u l .attained)
-        where
-          go : Given e w s (getD st u 0) (getD st (u + 1) 0) (getD s u 0)
-              → (getD s u 0 ≡ 0) ⊎ ((v : ℕ) × Edge (asModel g) u v × (getD s u 0 ≡ weigh w v + getD s v 0))
-          go (inl z) = inl z
-          go (inr r) = inr (goes e (r .0), row-joins R u (r .0) l (r .1) (r .2), r .3)
+        follows : (u : ℕ) → u < g .n → Follows e w s (getD st u 0) (getD st (u + 1) 0) (getD s u 0)
+        follows u l = rw (O .stands u l) at (D .follows (O .place u) zero-le (omega (arith, O .within u l, T .vertices)))
+
+        most : (u v : ℕ) → Edge (asModel g) u v → weigh w v + getD s v 0 ≤ getD s u 0
+        most u v d = let r = row-of R u v d in rw (r .3) at (follows u (W .from u v d) .most (r .0) (r .1) (r .2))
+
+        attained : (u : ℕ) → u < g .n → (getD s u 0 ≡ 0) ⊎ ((v : ℕ) × Edge (asModel g) u v × (getD s u 0 ≡ weigh w v + getD s v 0))
+        attained u l = go (follows u l .attained)
+          where
+            go : Given e w s (getD st u 0) (getD st (u + 1) 0) (getD s u 0)
+                → (getD s u 0 ≡ 0) ⊎ ((v : ℕ) × Edge (asModel g) u v × (getD s u 0 ≡ weigh w v + getD s v 0))
+            go (inl z) = inl z
+            go (inr r) = inr (goes e (r .0), row-joins R u (r .0) l (r .1) (r .2), r .3)

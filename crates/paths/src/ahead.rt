@@ -2,14 +2,14 @@
 // weights: a path's sum is always the sum of the weights that the table was made for.
 ghost use mathlib.Core.Path.{_≡_};
 ghost use Prim.Native.Nat.{_+_, max};
-ghost use lib.ListN.{getD};
+ghost use lib.ListN.{getD, length};
 ghost use Rattle.graph.specs.declared.Graph.{Graph};
 ghost use Rattle.graph.specs.Model.{asModel};
 ghost use Rattle.paths.specs.Ahead.{weigh, Summed, Weighed};
-ghost use Rattle.paths.specs.Along.{Follows, Visitable};
+ghost use Rattle.paths.specs.Along.{Follows, Visitable, Led, Comparable, Foremost};
 use starts::to;
 
-// What lies ahead of each vertex, and the source.
+// What lies ahead of each vertex, and the source where the longest path begins.
 pub struct Sums {
     pub ahead: [u64; 128],
     pub head: usize,
@@ -21,16 +21,19 @@ fn larger(a: u64, b: u64) -> u64
     if a < b { b } else { a }
 }
 
-// The largest sum by the edges of u, or 0 where it has none.
+// The largest sum by the edges of u, or 0 where it has none. Whoever they go to is marked as led to.
 fn most_ahead(
     edge: &[u16; 1024],
     start: &[u16; 129],
     weight: &[u64; 128],
     sums: &[u64; 128],
     u: usize,
+    led: &mut [u8; 128],
 ) -> u64
     requires { ⌜ Visitable (now edge) (now start) (now weight) (now sums) u ⌝ }
+    requires { ⌜ length (now led) ≡ 128 ⌝ }
     ensures { λ r. ⌜ Follows (now (edge .entry)) (now (weight .entry)) (now (sums .entry)) (getD (now (start .entry)) u 0) (getD (now (start .entry)) (u + 1) 0) r ⌝ }
+    ensures { λ r. ⌜ Led (now (edge .entry)) (getD (now (start .entry)) u 0) (getD (now (start .entry)) (u + 1) 0) (now (led .entry)) (now (led .exit)) ⌝ }
 {
     let end = start[u + 1] as usize;
     let mut most: u64 = 0;
@@ -38,14 +41,41 @@ fn most_ahead(
     while i < end {
         let v = to(edge[i]);
         most = larger(most, weight[v] + sums[v]);
+        led[v] = 1;
         i += 1;
     }
     most
 }
 
+// Of the vertices that nobody leads to, one with the largest sum; of several, the least. They are looked at from the last to the first, so
+// that of equal sums the lower number stays. `source` is one of them, to begin with.
+fn foremost(
+    weight: &[u64; 128],
+    sums: &[u64; 128],
+    led: &[u8; 128],
+    n: usize,
+    source: usize,
+) -> usize
+    requires { ⌜ Comparable (now weight) (now sums) (now led) n source ⌝ }
+    ensures { λ h. ⌜ Foremost (now (weight .entry)) (now (sums .entry)) (now (led .entry)) n h ⌝ }
+{
+    let mut head = source;
+    let mut most = weight[source] + sums[source];
+    let mut v = n;
+    while 0 < v {
+        v -= 1;
+        let sum = weight[v] + sums[v];
+        if (led[v] == 0) & (most <= sum) {
+            head = v;
+            most = sum;
+        }
+    }
+    head
+}
+
 // One pass along the order, from its last vertex to its first: the successors of a vertex stand after it, so their sums are done
-// before its own. No edge leads to the first, so that it is the source. The lists are lent, so the contract speaks of any accepted
-// graph that they are of.
+// before its own. Each edge is seen by this, so that afterwards the sources are those that nobody leads to; the first of the order is one.
+// The lists are lent, so the contract speaks of any accepted graph that they are of.
 pub fn longest(
     edge: &[u16; 1024],
     start: &[u16; 129],
@@ -57,14 +87,13 @@ pub fn longest(
     ensures { λ r. ⌜ ((g : Graph) → Weighed g (now (edge .entry)) (now (start .entry)) (now (order .entry)) n (now (weight .entry)) → Summed (asModel g) (weigh (now (weight .entry))) r) ⌝ }
 {
     let mut sums = [0u64; 128];
+    let mut led = [0u8; 128];
     let mut j = n;
     while 0 < j {
         j -= 1;
         let u = order[j] as usize;
-        sums[u] = most_ahead(edge, start, weight, &sums, u);
+        sums[u] = most_ahead(edge, start, weight, &sums, u, &mut led);
     }
-    Sums {
-        ahead: sums,
-        head: order[0] as usize,
-    }
+    let head = foremost(weight, &sums, &led, n, order[0] as usize);
+    Sums { ahead: sums, head }
 }

@@ -4,10 +4,8 @@ use mathlib.Core.Bool.{Bool, true, false}
 use mathlib.Core.List.{List}
 use Prim.Native.Nat.{ℕ, _+_, _≤_, _<_}
 use native.Mathlib.Omega.{arith}
-use lib.Dec.{lit≤}
 use lib.ListN.{getD}
-use borrow.Author.Tests.{lt-ltb, le-ltb}
-use Rattle.model.specs.Places.{pick, table, padded}
+use Rattle.model.specs.Places.{table, padded}
 use Rattle.graph.specs.File.{records, many, column, words, keys, graphOf, noGraph}
 use Rattle.model.specs.Cycle.{cyclic}
 use Rattle.graph.specs.Model.{AcceptedGraph, asModel}
@@ -21,13 +19,13 @@ use Rattle.graph.proofs.Judging.{judge-first, judge-second, none-holds, all-fit
 use Rattle.graph.proofs.Accepted.{taken, few-kinds, few-vertices, few-edges}
 use Rattle.records.specs.declared.Counts.{Counts}
 use Rattle.starts.specs.Starts.{startIn, Rows, Ordered}
-use Rattle.cycle.specs.Last.{drawn, astray, lastOf}
-use Rattle.cycle.proofs.Drawn.{drawn-last}
-use Rattle.reader.specs.Steps.{Quiet, Faultless, Found, Listed, Numbered, Edged}
+use Rattle.cycle.specs.Drawn.{drawn}
+use Rattle.cycle.proofs.Drawn.{drawn-cyclic}
+use Rattle.reader.specs.Steps.{Quiet, Faultless, Found, Listed, Tested, Edged}
 use Rattle.reader.specs.Laid.{graphIn, TakenInto, Usable}
 use Rattle.reader.specs.declared.Header.{Header}
 use Rattle.reader.specs.declared.numbers.Judged.{Judged}
-use Rattle.reader.proofs.Taking.{judged-last, quiet-found, rows}
+use Rattle.reader.proofs.Taking.{quiet-found, rows}
 
 -- ---- the edges
 
@@ -54,12 +52,12 @@ module _ (s : List ℕ) (c : Counts) (F : Faultless s c) where
       let n = F .counted in
       rw (L .edge, L .starts, n .all-vertices, n .all-edges) (rows s bytes (F .quiet))
 
-  pub ended : (r : ℕ) (e st o : List ℕ) → Listed s e st → r ≡ lastOf (drawn e (c .n) (c .edges)) → (r ≡ 13 → Ordered e (c .edges) (c .n) o) → Numbered s r e st o
+  pub tested : (r : Bool) (e st o : List ℕ) → Listed s e st → r ≡ cyclic (asModel (drawn e (c .n) (c .edges))) → (r ≡ false → Ordered e (c .edges) (c .n) o) → Tested s r e st o
   unfolding graphOf
-  ended r e st o L p q =
+  tested r e st o L p q =
       let n = F .counted in
       record {
-        number = p ∙ rw (L .edge, n .all-vertices, n .all-edges) (drawn-last (graphOf s));
+        cycle = p ∙ rw (L .edge, n .all-vertices, n .all-edges) (drawn-cyclic (graphOf s));
         listed = L;
         order = λ z. rw (L .edge, n .all-vertices, n .all-edges) at (q z);
       }
@@ -72,24 +70,8 @@ not-both p q = let z : _≡_ {A = ℕ} 0 1 = cc in omega arith
 pub faultless : (s : List ℕ) (r : Judged) → Found s r → 11 ≤ r .refusal .number → Faultless s (r .counts)
 faultless s r f h = record { counted = f .counted; quiet = quiet-found s (rw (f .number) at h) }
 
-module _ (s : List ℕ) (q : Quiet s) (r : ℕ) (is : r ≡ lastOf (graphOf s)) where
-  pub last-refused : r < 13 → judgeFrom 2 s ≡ Refused (record { number = r; place = 0 })
-  last-refused h = judged-last s q ∙ rw (← is, lt-ltb r 13 h) refl
-
-  pub last-accepted : 13 ≤ r → judgeFrom 2 s ≡ Accepted
-  last-accepted h = judged-last s q ∙ rw (← is, le-ltb r 13 h) refl
-
 pub refused-edged : {s : List ℕ} {h : Header} {e st o : List ℕ} {x : Refusal} → judgeFrom 2 s ≡ Refused x → judgeFrom 2 s ≡ Accepted → Edged s h e st o
 refused-edged p q = absurd (not-both q p)
-
-pub last-is : (s : List ℕ) (r : ℕ) → r ≡ lastOf (graphOf s) → 13 ≤ r → r ≡ 13
-unfolding lastOf
-last-is s r e h = omega (arith, e, few (cyclic (asModel (graphOf s))) (astray (graphOf s)))
-  where
-    few : (a b : Bool) → pick a 11 (pick b 12 13) ≤ 13
-    few true b = lit≤ tt
-    few false true = lit≤ tt
-    few false false = lit≤ tt
 
 -- ---- the whole graph
 

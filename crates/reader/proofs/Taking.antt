@@ -1,26 +1,23 @@
--- What the search over the numbers up to 10 gives, and then the numbers 11 and 12.
+-- What the search over the numbers up to 10 gives, and then number 11.
 use mathlib.Core.Path.{_≡_, refl, _∙_}
-use mathlib.Core.Logic.{_⊎_, inl, inr}
 use mathlib.Core.Bool.{Bool, true, false}
 use mathlib.Core.List.{List}
 use Prim.Native.Nat.{ℕ, _≤_, _<_, min}
 use native.Mathlib.Omega.{arith}
 use native.Mathlib.Decide.{ℕ-discrete}
 use lib.ListN.{length, getD}
-use lib.Dec.{ltb, lit<, lit≤}
+use lib.Dec.{lit<, lit≤}
 use borrow.Author.Tests.{lt-ltb, le-ltb}
 use Rattle.model.specs.Places.{pick, table}
 use Rattle.model.specs.Cycle.{cyclic}
-use Rattle.model.proofs.Bools.{cases}
 use Rattle.graph.specs.File.{records, many, graphOf}
 use Rattle.graph.specs.Model.{from, to, asModel}
-use Rattle.graph.specs.Rules.{holds, perRecord, places, rule11, rule12}
+use Rattle.graph.specs.Rules.{holds, perRecord, places, rule11}
 use Rattle.graph.specs.Judge.{placeOf, applies, lowest, judgeFrom}
 use Rattle.graph.specs.declared.Answer.the-variants.{Accepted, Refused}
 use Rattle.graph.proofs.Judging.{not-applies, not-for-any, whole-place, whole-applies, whole-not, lowest-at, lowest-past, below-lowest, lowest-above, judge-at, judge-none}
 use Rattle.graph.proofs.Accepted.{few-vertices, few-edges, from-known, to-known, ascending}
 use Rattle.starts.specs.Starts.{firstEdge, Rows}
-use Rattle.cycle.specs.Last.{astray, lastOf}
 use Rattle.reader.specs.Steps.{Quiet, lowestIn}
 
 pub few-places : (s : List ℕ) (num : ℕ) → length s ≤ 9320 → places s num ≤ 1165
@@ -63,48 +60,26 @@ module _ (s : List ℕ) where
   unfolding lowestIn
   quiet-found h num f l = not-applies s num (below-lowest s 2 num f (omega arith) (omega arith))
 
-  -- then the numbers 11 and 12 are said of the graph that the records give
+  -- then number 11 is said of the graph that the records give
   module _ (q : Quiet s) where
-    past : (j : ℕ) → j < 11 → 2 ≤ j → applies s j ≡ false
-    past j l f = not-for-any s j (q j f l)
-
     row-11 : holds s 11 0 ≡ cyclic (asModel (graphOf s))
     unfolding holds rule11
     row-11 = refl
 
-    row-12 : holds s 12 0 ≡ astray (graphOf s)
-    unfolding holds rule12 astray graphOf
-    row-12 = refl
+    past : (j : ℕ) → j < 11 → 2 ≤ j → applies s j ≡ false
+    past j l f = not-for-any s j (q j f l)
 
-    pub judged-last : judgeFrom 2 s ≡ pick (ltb (lastOf (graphOf s)) 13) (Refused (record { number = lastOf (graphOf s); place = 0 })) Accepted
-    unfolding lastOf
-    judged-last = go (cases (cyclic (asModel (graphOf s)))) (cases (astray (graphOf s)))
+    pub cycle-refused : cyclic (asModel (graphOf s)) ≡ true → judgeFrom 2 s ≡ Refused (record { number = 11; place = 0 })
+    cycle-refused c =
+        let e : lowest 2 s ≡ 11 = lowest-at s 2 11 (lit≤ tt) past (lit< tt) (whole-applies s 11 refl (row-11 ∙ c)) in
+        rw (judge-at s 2 11 (lit< tt) e, whole-place s 11 refl (row-11 ∙ c)) refl
+
+    pub acyclic-accepted : cyclic (asModel (graphOf s)) ≡ false → judgeFrom 2 s ≡ Accepted
+    acyclic-accepted c = judge-none s 2 (lowest-past s 2 12 (lit≤ tt) (λ j l f. at j l f (ℕ-discrete j 11)) refl)
       where
-        past-11 : cyclic (asModel (graphOf s)) ≡ false → (j : ℕ) → j < 12 → 2 ≤ j → applies s j ≡ false
-        past-11 c j l f = at (ℕ-discrete j 11)
-          where
-            at : Dec (j ≡ 11) → applies s j ≡ false
-            at (yes e) = rw e (whole-not s 11 refl (row-11 ∙ c))
-            at (no e) = past j (omega arith) f
-
-        past-12 : cyclic (asModel (graphOf s)) ≡ false → astray (graphOf s) ≡ false → (j : ℕ) → j < 13 → 2 ≤ j → applies s j ≡ false
-        past-12 c x j l f = at (ℕ-discrete j 12)
-          where
-            at : Dec (j ≡ 12) → applies s j ≡ false
-            at (yes e) = rw e (whole-not s 12 refl (row-12 ∙ x))
-            at (no e) = past-11 c j (omega arith) f
-
-        go : (cyclic (asModel (graphOf s)) ≡ true) ⊎ (cyclic (asModel (graphOf s)) ≡ false) → (astray (graphOf s) ≡ true) ⊎ (astray (graphOf s) ≡ false)
-            → judgeFrom 2 s ≡ pick (ltb (lastOf (graphOf s)) 13) (Refused (record { number = lastOf (graphOf s); place = 0 })) Accepted
-        go (inl c) x =
-            let e : lowest 2 s ≡ 11 = lowest-at s 2 11 (lit≤ tt) past (lit< tt) (whole-applies s 11 refl (row-11 ∙ c)) in
-            rw (judge-at s 2 11 (lit< tt) e, whole-place s 11 refl (row-11 ∙ c), c) refl
-        go (inr c) (inl x) =
-            let e : lowest 2 s ≡ 12 = lowest-at s 2 12 (lit≤ tt) (past-11 c) (lit< tt) (whole-applies s 12 refl (row-12 ∙ x)) in
-            rw (judge-at s 2 12 (lit< tt) e, whole-place s 12 refl (row-12 ∙ x), c, x) refl
-        go (inr c) (inr x) =
-            let e : lowest 2 s ≡ 13 = lowest-past s 2 13 (lit≤ tt) (past-12 c x) refl in
-            rw (judge-none s 2 e, c, x) refl
+        at : (j : ℕ) → j < 12 → 2 ≤ j → Dec (j ≡ 11) → applies s j ≡ false
+        at j l f (yes e) = rw e (whole-not s 11 refl (row-11 ∙ c))
+        at j l f (no e) = past j (omega arith) f
 
   -- what the numbers up to 10 tell of the counts and of the edges
   module _ (bytes : (i : ℕ) → getD s i 0 < 256) (q : Quiet s) where

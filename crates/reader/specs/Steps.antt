@@ -7,22 +7,23 @@
 --   lowestIn s           the lowest number from 2 to 10 that applies, with its place; or 11
 --   Found s r            r has that, and where it is 11 the counts
 --   Listed s e st        e are the edges of the file's graph, and st their starts
---   Numbered s r e st o  r is the number 11 or 12 that applies, or 13; the edges are listed, with their starts, and with 13 the order
+--   Tested s r e st o    r is whether the edges hold a cycle; they are listed, with their starts, and where they hold none the order
 --   Edged s h e st o     what is known of an accepted file: the counts, the edges, their starts, and an order along them
 use mathlib.Core.Path.{_≡_}
-use mathlib.Core.Bool.{false}
+use mathlib.Core.Bool.{Bool, false}
 use mathlib.Core.List.{List}
 use Prim.Native.Nat.{ℕ, _≤_, _<_, min}
 use lib.Dec.{ltb}
 use Rattle.model.specs.Places.{pick, table}
+use Rattle.model.specs.Cycle.{cyclic}
 use Rattle.graph.specs.File.{many, graphOf}
+use Rattle.graph.specs.Model.{asModel}
 use Rattle.graph.specs.Rules.{holds, places}
 use Rattle.graph.specs.Judge.{placeOf, lowest}
 use Rattle.graph.specs.declared.Refusal.{Refusal}
 use Rattle.records.specs.Passing.{Counted}
 use Rattle.records.specs.declared.Counts.{Counts}
 use Rattle.starts.specs.Starts.{firstEdge, Ordered}
-use Rattle.cycle.specs.Last.{lastOf}
 use Rattle.reader.specs.declared.Header.{Header}
 use Rattle.reader.specs.declared.numbers.Judged.{Judged}
 
@@ -44,10 +45,10 @@ pub record Listed (s e st : List ℕ) : Type 0 where
   pub edge : e ≡ graphOf s .edge
   pub starts : st ≡ table (firstEdge (graphOf s)) 129
 
-pub record Numbered (s : List ℕ) (r : ℕ) (e st o : List ℕ) : Type 0 where
-  pub number : r ≡ lastOf (graphOf s)
+pub record Tested (s : List ℕ) (r : Bool) (e st o : List ℕ) : Type 0 where
+  pub cycle : r ≡ cyclic (asModel (graphOf s))
   pub listed : Listed s e st
-  pub order : r ≡ 13 → Ordered (graphOf s .edge) (many s 2) (many s 1) o
+  pub order : r ≡ false → Ordered (graphOf s .edge) (many s 2) (many s 1) o
 
 pub record Edged (s : List ℕ) (h : Header) (e st o : List ℕ) : Type 0 where
   pub kinds : h .kinds ≡ many s 0

@@ -7,7 +7,7 @@ ghost use Rattle.graph.specs.File.{noGraph};
 ghost use Rattle.graph.specs.Judge.{judgeFrom, readOf};
 ghost use Rattle.graph.specs.Model.{AcceptedGraph};
 ghost use Rattle.graph.specs.declared.Answer.the-variants.{Accepted, Refused};
-ghost use Rattle.reader.specs.Steps.{Faultless, Numbered, Edged};
+ghost use Rattle.reader.specs.Steps.{Faultless, Tested, Edged};
 ghost use Rattle.reader.specs.Laid.{Blank, Along, TakenInto};
 
 mod lists; // lists.rt: the lists of a file
@@ -45,21 +45,21 @@ fn refused_whole(number: u32) -> Header
     refused(Refusal { number, place: 0 })
 }
 
-// The last two numbers, 11 and 12, are said of the graph and not of records: of the edges, as they are listed.
-fn ended(
+// The last number, 11, is said of the graph and not of records: of the edges, as they are listed.
+fn holds_cycle(
     file: &[u8],
     c: Counts,
     edge: &mut [u16; 1024],
     starts: &mut [u16; 129],
     order: &mut [u8; 128],
-) -> u32
+) -> bool
     requires { ⌜ Faultless (now file) c ⌝ }
     requires { ⌜ (now edge ≡ replicate 1024 0) × (length (now order) ≡ 128) ⌝ }
-    ensures { λ r. ⌜ Numbered (now (file .entry)) r (now (edge .exit)) (now (starts .exit)) (now (order .exit)) ⌝ }
+    ensures { λ r. ⌜ Tested (now (file .entry)) r (now (edge .exit)) (now (starts .exit)) (now (order .exit)) ⌝ }
 {
     lists::edge_of(file, c.kinds + c.n, c.edges, edge);
     *starts = starts::starts(edge, c.edges);
-    cycle::last_number(edge, starts, c.n, c.edges, order)
+    cycle::cyclic(edge, starts, c.n, c.edges, order)
 }
 
 // The answer of the numbers from 2 on.
@@ -80,9 +80,8 @@ fn take_edges(
         return refused(refusal);
     }
     let c = found.counts;
-    let number = ended(file, c, edge, starts, order);
-    if number < 13 {
-        return refused_whole(number);
+    if holds_cycle(file, c, edge, starts, order) {
+        return refused_whole(11);
     }
     Header {
         answer: Answer::Accepted,
@@ -215,6 +214,6 @@ pub fn along(g: Graph, starts: &mut [u16; 129]) -> [u8; 128]
 {
     *starts = starts::starts(&g.edge, g.edges);
     let mut order = [0u8; 128];
-    cycle::last_number(&g.edge, starts, g.n, g.edges, &mut order);
+    cycle::cyclic(&g.edge, starts, g.n, g.edges, &mut order);
     order
 }

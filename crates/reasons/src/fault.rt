@@ -64,8 +64,6 @@ type * has not 1 to 16 cores
 stage * has a WCET above 1000000
 stage * waits for itself
 stage * waits for itself by way of others
-stage * is a second one that waits for none
-stage * is a second one that none waits for
 * is above the WCET of its stage
 no type is declared
 no stage is declared

@@ -23,13 +23,6 @@ fn to(edge: u16) -> usize
     (edge % 128) as usize
 }
 
-// The stage that an edge leads to, or the one that it leads from.
-fn side(edge: u16, entered: bool) -> usize
-    ensures { λ r. ⌜ r < 128 ⌝ }
-{
-    if entered { to(edge) } else { from(edge) }
-}
-
 // Marks where each edge from v, and from what is marked, leads; whether any mark is new.
 fn sweep(edge: &[u16; 1024], n: usize, v: usize, marks: &mut [u8; 128]) -> bool {
     let mut grown = false;
@@ -66,42 +59,6 @@ fn on_cycle(edge: &[u16; 1024], n: usize) -> usize {
     0
 }
 
-// The stages that an edge leads to, or those that one leads from, marked.
-fn ends(edge: &[u16; 1024], n: usize, entered: bool) -> [u8; 128] {
-    let mut marks = [0u8; 128];
-    let end = least(n, 1024);
-    for i in 0..end {
-        let v = side(edge[i], entered);
-        marks[v] = 1;
-    }
-    marks
-}
-
-// The second of the first n stages that are not marked; n where there is none.
-fn second(marks: [u8; 128], n: usize) -> usize {
-    let mut seen = false;
-    let end = least(n, 128);
-    for v in 0..end {
-        if marks[v] == 0 {
-            if seen {
-                return v;
-            }
-            seen = true;
-        }
-    }
-    n
-}
-
-// A second stage that waits for none, or else a second one that none waits for.
-fn apart(k: usize, t: &[u8], names: Names, edge: &[u16; 1024], n: usize) -> bool {
-    let first = second(ends(edge, n, true), names.stages);
-    if first < names.stages {
-        return fault::said_stage(k, t, names, faults::SECOND_START, first);
-    }
-    let last = second(ends(edge, n, false), names.stages);
-    fault::said_stage(k, t, names, faults::SECOND_END, last)
-}
-
 // How far a place is past a count; 0 where it is not.
 fn past(place: usize, count: usize) -> usize {
     if count <= place { place - count } else { 0 }
@@ -130,7 +87,6 @@ pub fn said(k: usize, t: &[u8], names: Names, edge: &[u16; 1024], n: usize, r: R
             faults::ITSELF,
             waiting(edge, past(stage, names.stages)),
         ),
-        11 => fault::said_stage(k, t, names, faults::CYCLE, on_cycle(edge, n)),
-        _ => apart(k, t, names, edge, n),
+        _ => fault::said_stage(k, t, names, faults::CYCLE, on_cycle(edge, n)),
     }
 }

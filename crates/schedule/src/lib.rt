@@ -1,5 +1,5 @@
 // The list schedule for callers: a run started, moved on by one tick, or run whole. Every entry takes the graph as its file's bytes
-// and says no with 1 to 12 as the reader does, before any other number.
+// and says no with 1 to 11 as the reader does, before any other number.
 ghost use mathlib.Core.Path.{_≡_};
 ghost use Prim.Native.Nat.{_≤_};
 ghost use lib.ListN.{length};

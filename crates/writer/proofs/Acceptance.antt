@@ -19,13 +19,13 @@ quiet : (s : List ℕ) (num : ℕ) → ((k : ℕ) → k < places s num → holds
 unfolding applies placeOf
 quiet s num h = rw (first-none (holds s num) (places s num) h) (le-ltb (places s num) (places s num) (omega arith))
 
-pub all-quiet : (a : ℕ) (s : List ℕ) → a ≤ 13 → ((num : ℕ) → a ≤ num → num < 13 → (k : ℕ) → k < places s num → holds s num k ≡ false)
+pub all-quiet : (a : ℕ) (s : List ℕ) → a ≤ 12 → ((num : ℕ) → a ≤ num → num < 12 → (k : ℕ) → k < places s num → holds s num k ≡ false)
     → judgeFrom a s ≡ Accepted
 unfolding judgeFrom
-all-quiet a s f h = rw (lowest-past s a 13 f (λ j l g. quiet s j (h j g l)) refl) refl
+all-quiet a s f h = rw (lowest-past s a 12 f (λ j l g. quiet s j (h j g l)) refl) refl
 
 -- a file that is accepted from a number on is accepted from each later one
-pub accepted-from : (a b : ℕ) (s : List ℕ) → a ≤ b → b ≤ 13 → judgeFrom a s ≡ Accepted → judgeFrom b s ≡ Accepted
+pub accepted-from : (a b : ℕ) (s : List ℕ) → a ≤ b → b ≤ 12 → judgeFrom a s ≡ Accepted → judgeFrom b s ≡ Accepted
 accepted-from a b s f g ok = all-quiet b s g (λ num x y. none-holds a s ok num (omega arith) y)
 
 -- the numbers 4, 6 and 8 bound the counts

@@ -64,7 +64,7 @@ module _ (s t : List ℕ) (num : ℕ) (w : perRecord num ≡ true) (c : ℕ) (cs
       record { tests = rw w (r .0); place = rw w (r .1) }
 
 -- the numbers from 4 to n go alike, and n holds for place 0
-module _ (s t : List ℕ) (n : ℕ) (n4 : 4 ≤ n) (n13 : n < 13) (alike : (j : ℕ) → 4 ≤ j → j ≤ n → Alike s t j)
+module _ (s t : List ℕ) (n : ℕ) (n4 : 4 ≤ n) (n12 : n < 12) (alike : (j : ℕ) → 4 ≤ j → j ≤ n → Alike s t j)
     (some : 0 < places s n) (here : holds s n 0 ≡ true) where
   -- none below the lowest number of s applies to t
   lowest-alike : lowest 4 s ≤ n → lowest 4 t ≡ lowest 4 s
@@ -78,4 +78,4 @@ module _ (s t : List ℕ) (n : ℕ) (n4 : 4 ≤ n) (n13 : n < 13) (alike : (j : 
     where
       go : (lowest 4 s ≤ n) ⊎ (n < lowest 4 s) → judgeFrom 4 s ≡ judgeFrom 4 t
       go (inl l) = rw (lowest-alike l, alike (lowest 4 s) (lowest-from s 4) l .place (lowest-applies s 4 (omega arith))) refl
-      go (inr l) = absurd (clash here (not-applies s n (below-lowest s 4 n n4 n13 l) 0 some))
+      go (inr l) = absurd (clash here (not-applies s n (below-lowest s 4 n n4 n12 l) 0 some))

@@ -98,7 +98,7 @@ module _ (g : Lists) (a b e : ℕ) where
         let t : length s ≤ 9296 = omega (arith, part-types g a b e, part-vertices g a b e, part-edges g a b e) in
         rw (eq-eqb (length s % 8) 0 m, le-ltb 9296 (length s) t) refl
 
-    none-of : (num : ℕ) → 1 ≤ num → num < 13 → (k : ℕ) → k < places (part g a b e) num → holds (part g a b e) num k ≡ false
+    none-of : (num : ℕ) → 1 ≤ num → num < 12 → (k : ℕ) → k < places (part g a b e) num → holds (part g a b e) num k ≡ false
     unfolding places holds
     none-of num f l = go (ℕ-discrete num 1) (ℕ-discrete num 2) (ℕ-discrete num 3)
       where

@@ -58,7 +58,7 @@ abbrev pub wroteBy : Answer → ℕ → ℕ → Wrote
 wroteBy answers.Accepted size room = pick (ltb room size) (Refused (record { number = 15; place = 0 })) (Bytes size)
 wroteBy (answers.Refused r) size room = Refused r
 
--- 13 first, where types and WCETs differ in length; then 4 to 12, with the places the records would have had; then 15
+-- 13 first, where types and WCETs differ in length; then 4 to 11, with the places the records would have had; then 15
 unfoldable pub wroteOf : Lists → ℕ → Wrote
 wroteOf g room =
     pick (eqb (length (g .kinds)) (length (g .wcets)))

@@ -1,10 +1,8 @@
-use mathlib.Core.Path.{_≡_, sym, ap, _∙_}
-use Prim.Native.Nat.{_≤_}
-use native.Mathlib.Omega.{arith}
+use mathlib.Core.Path.{sym, ap, _∙_}
 use Rattle.graph.specs.declared.Answer.the-variants.{Refused}
 use Rattle.reader.specs.Steps.{Faultless}
-use Rattle.reader.proofs.Taking.{refused-found}
-use Rattle.reader.proofs.Laying.{faultless, refused-edged, last-refused, last-accepted, last-is}
+use Rattle.reader.proofs.Taking.{refused-found, cycle-refused, acyclic-accepted}
+use Rattle.reader.proofs.Laying.{faultless, refused-edged}
 use borrow.Author.Needs.{needs}
 use Rattle.reader.proofs.take_edges.Statement.{statement}
 use Rattle.reader.proofs.take_edges.Tie as tie
@@ -24,8 +22,8 @@ returns c =
 fits : (c : tie.Else1) → Faultless (c .before .before .before .before .before .args .file .now) (c .before .before .before .lowest .result .counts)
 fits c = faultless _ (c .before .before .before .lowest .result) (c .before .before .before .lowest .ensures) (c .if1 .left)
 
-ended-requires : tie.Need-ended-requires
-ended-requires c κs =
+holds-cycle-requires : tie.Need-holds-cycle-requires
+holds-cycle-requires c κs =
     let a = c .before .before .before .before .before .before .before .before .before in
     (fits (c .before .before .before .before), (a .pre .1 .0, a .pre .1 .1))
 
@@ -34,22 +32,22 @@ refused-whole-requires c κs = search needs
 
 returns-2 : tie.Need-returns-2
 returns-2 c =
-    let e = c .before .before .ended .ensures in
-    let r = c .refused-whole .ensures ∙ sym (last-refused _ (fits (c .before .before .before .before .before .before .before) .quiet) (c .before .before .ended .result) (e .number) (c .before .if2 .taken)) in
+    let e = c .before .before .holds-cycle .ensures in
+    let r = c .refused-whole .ensures ∙ sym (cycle-refused _ (fits (c .before .before .before .before .before .before .before) .quiet) (sym (e .cycle) ∙ c .before .if2 .taken)) in
     (r, refused-edged (sym r ∙ c .refused-whole .ensures))
 
 returns-3 : tie.Need-returns-3
 returns-3 c =
-    let e = c .before .ended .ensures in
+    let e = c .before .holds-cycle .ensures in
     let F = fits (c .before .before .before .before .before .before) in
-    let a = last-accepted _ (F .quiet) (c .before .ended .result) (e .number) (c .if2 .left) in (
+    let a = acyclic-accepted _ (F .quiet) (sym (e .cycle) ∙ c .if2 .left) in (
       sym a,
       λ q. record {
         kinds = F .counted .all-kinds;
         vertices = F .counted .all-vertices;
         edges = F .counted .all-edges;
         listed = e .listed;
-        order = e .order (last-is _ (c .before .ended .result) (e .number) (c .if2 .left));
+        order = e .order (c .if2 .left);
       },
     )
 
@@ -60,7 +58,7 @@ take-edges-spec =
     lowest-requires
     refused-requires
     returns
-    ended-requires
+    holds-cycle-requires
     refused-whole-requires
     returns-2
     returns-3)

@@ -4,9 +4,9 @@ use native.Mathlib.Omega.{arith}
 use lib.ListN.{getD}
 use borrow.Author.Needs.{needs}
 use Rattle.reader.specs.Steps.{Listed}
-use Rattle.reader.proofs.Laying.{within, listed, laid-rows, ended}
-use Rattle.reader.proofs.ended.Statement.{statement}
-use Rattle.reader.proofs.ended.Tie as tie
+use Rattle.reader.proofs.Laying.{within, listed, laid-rows, tested}
+use Rattle.reader.proofs.holds_cycle.Statement.{statement}
+use Rattle.reader.proofs.holds_cycle.Tie as tie
 
 add-edge-of : tie.Need-add-edge-of
 add-edge-of c =
@@ -31,16 +31,16 @@ given c =
     let a = c .before .before .before .before .before .before in
     listed (a .args .file .now) (a .args .c) (a .pre .0) _ _ (c .before .before .edge-of .ensures) (c .starts .ensures)
 
-last-number-requires : tie.Need-last-number-requires
-last-number-requires c κs =
+cyclic-requires : tie.Need-cyclic-requires
+cyclic-requires c κs =
     let a = c .before .before .before .before .before .before .before .before .before in
     (laid-rows (a .args .file .now) (a .args .c) (a .pre .0) (λ i. c .before .before .before .before .before .before .before .before .shared-slice-known .given i .fits) _ _ (given (c .before .before .before)), a .pre .1 .1)
 
 returns : tie.Need-returns
 returns c =
     let a = c .before .before .before .before .before .before .before .before .before .before in
-    ended (a .args .file .now) (a .args .c) (a .pre .0) (c .last-number .result) _ _ _ (given (c .before .before .before .before)) (c .last-number .ensures .0) (c .last-number .ensures .1)
+    tested (a .args .file .now) (a .args .c) (a .pre .0) (c .cyclic .result) _ _ _ (given (c .before .before .before .before)) (c .cyclic .ensures .0) (c .cyclic .ensures .1)
 
-pub ended-spec : {M : Type 1} → statement M
-ended-spec =
-    tie.close (tie.spec add-edge-of edge-of-requires starts-requires last-number-requires returns)
+pub holds-cycle-spec : {M : Type 1} → statement M
+holds-cycle-spec =
+    tie.close (tie.spec add-edge-of edge-of-requires starts-requires cyclic-requires returns)
