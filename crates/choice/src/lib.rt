@@ -11,7 +11,7 @@ ghost use Rattle.choice.specs.Choice.{setAt, OfKinds, Joined, goOn, star
 use vset::Vset;
 
 // The set of kind k, which stands in two of the words.
-fn set_at(words: &[u64; 20], k: usize) -> Vset
+pub fn set_at(words: &[u64; 20], k: usize) -> Vset
     requires { ⌜ k < 10 ⌝ }
     ensures { λ r. ⌜ r ≡ setAt (now (words .entry)) k ⌝ }
 {

@@ -11,7 +11,7 @@ use Rattle.model.specs.Cycle.{Walk, one, step, Acyclic}
 use Rattle.model.specs.Path.{ToSink, end, link, Complete, complete, Greatest}
 use Rattle.model.specs.Gain.{withWcet}
 use Rattle.model.specs.Summary.{FromSource, begin, onward, EndingAt, StartingAt}
-use Rattle.model.proofs.Cycles.{walk-join}
+use Rattle.model.proofs.Cycles.{walk-join, walk-within}
 use Rattle.model.proofs.Joined.{along-last}
 
 pub record Alike (G H : Graph) : Type 0 where
@@ -28,16 +28,15 @@ module _ {G H : Graph} (S : Alike G H) where
   edge-here : (u v : ℕ) → Edge H u v → Edge G u v
   edge-here u v e = S .edges u v ∙ e
 
-  to-sink-alike : {p : List ℕ} → ToSink G p → ToSink H p
+  pub to-sink-alike : {p : List ℕ} → ToSink G p → ToSink H p
   to-sink-alike (end {v = v} l s) = end (rw (S .vertices) at l) (λ u e. s u (edge-here v u e))
   to-sink-alike (link {u = u} {v = v} e c) = link (edge-there u v e) (to-sink-alike c)
 
-  complete-alike : {p : List ℕ} → Complete G p → Complete H p
+  pub complete-alike : {p : List ℕ} → Complete G p → Complete H p
   complete-alike (complete {u = v} s c) = complete (λ u e. s u (edge-here u v e)) (to-sink-alike c)
 
-  walk-alike : {u v : ℕ} → Walk G u v → Walk H u v
-  walk-alike (one {u = u} {v = v} e) = one (edge-there u v e)
-  walk-alike (step {u = u} {v = v} e x) = step (edge-there u v e) (walk-alike x)
+  pub walk-alike : {u v : ℕ} → Walk G u v → Walk H u v
+  walk-alike = walk-within edge-there
 
 pub greatest-alike : {G H : Graph} → Alike G H → {value : List ℕ → ℕ} {x : ℕ} → Greatest G value x → Greatest H value x
 greatest-alike S r = record {

@@ -4,13 +4,13 @@
 -- that a walk from u to v has inner vertices below k alone. It is transitive by induction on k, with no counting of pigeons.
 use mathlib.Core.Path.{_≡_, refl, ap, sym, _∙_}
 use mathlib.Core.Logic.{_⊎_, inl, inr}
-use mathlib.Core.Bool.{Bool, true, false, not, _&&_, _||_}
+use mathlib.Core.Bool.{true, false, _&&_}
 use Prim.Native.Nat.{ℕ, zero, suc, _+_, _-_, _≤_, _<_, zero-le}
 use native.Mathlib.Omega.{arith}
 use native.Mathlib.Decide.{ℕ-discrete}
 use Rattle.model.specs.Places.{count, any}
 use Rattle.model.specs.Graph.{Graph, Edge, WellFormed}
-use Rattle.model.specs.Cycle.{Walk, one, step, Acyclic, Ranked, walks, cyclic}
+use Rattle.model.specs.Cycle.{Walk, one, step, reach, ancestor, Acyclic, Ranked, walks, cyclic}
 use Rattle.model.proofs.Bools.{clash, cases, not-true, both, left-of, right-of, or-left, or-right, or-cases}
 use Rattle.model.proofs.Places.{all-or-some, count-less, count-all, any-intro, any-elim}
 
@@ -22,11 +22,21 @@ pub walk-from : {G : Graph} {u v : ℕ} → WellFormed G → Walk G u v → u < 
 walk-from {u = u} W (one {v = v} e) = W .from u v e
 walk-from {u = u} W (step {v = v} e x) = W .from u v e
 
--- ---- who is an ancestor of whom
+-- the last edge of a walk
+pub walk-last : {G : Graph} {u v : ℕ} → Walk G u v → (p : ℕ) × Edge G p v × ((u ≡ p) ⊎ Walk G u p)
+walk-last {u = u} (one e) = (u, e, inl refl)
+walk-last {G} {u} {v} (step {v = w} e x) = let r = walk-last x in (r .0, r .1, inr (go (r .0) (r .2)))
+  where
+    go : (p : ℕ) → (w ≡ p) ⊎ Walk G w p → Walk G u p
+    go p (inl q) = let y : Walk G u w = one e in rw q at y
+    go p (inr y) = step e y
 
-reach : Graph → ℕ → ℕ → ℕ → Bool
-reach G zero u v = G .edge u v
-reach G (suc k) u v = reach G k u v || (reach G k u k && reach G k k v)
+-- a graph that has all the edges of another has all its walks
+pub walk-within : {G H : Graph} → ((u v : ℕ) → Edge G u v → Edge H u v) → {u v : ℕ} → Walk G u v → Walk H u v
+walk-within h {u} {v} (one e) = one (h u v e)
+walk-within h {u} (step {v = v} e x) = step (h u v e) (walk-within h x)
+
+-- ---- who is an ancestor of whom
 
 module _ (G : Graph) where
   reach-old : (k u v : ℕ) → reach G k u v ≡ true → reach G (suc k) u v ≡ true
@@ -88,10 +98,7 @@ module _ (G : Graph) where
       go (no e) ih (inr x) (inl y) = reach-via k u w (x .0) (ih k w (omega arith) (x .1) y)
       go (no e) ih (inr x) (inr y) = reach-via k u w (x .0) (y .1)
 
--- whether u is an ancestor of v
-pub ancestor : Graph → ℕ → ℕ → Bool
-ancestor G u v = reach G (G .n) u v
-
+-- THEOREM. The test holds exactly where u is an ancestor of v.
 pub ancestor-walk : (G : Graph) (u v : ℕ) → ancestor G u v ≡ true → Walk G u v
 unfolding ancestor
 ancestor-walk G u v t = reach-walk G (G .n) u v t

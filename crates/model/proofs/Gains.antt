@@ -6,7 +6,6 @@ use mathlib.Core.Path.{_≡_, refl, ap, fun-ext}
 use mathlib.Core.List.{List, [], _∷_}
 use mathlib.Core.Bool.{Bool, true, false}
 use Prim.Native.Nat.{ℕ, zero, suc, _+_, _-_, _*_, _/_, _≤_, _<_}
-use native.Mathlib.Nat.{div-le-self}
 use native.Mathlib.Omega.{arith}
 use native.Mathlib.Decide.{ℕ-discrete}
 use lib.Dec.{eqb}
@@ -18,7 +17,7 @@ use Rattle.model.specs.Bounds.{PARTS, scaled, volume}
 use Rattle.model.specs.Gain.{withWcet, GainOf}
 use Rattle.model.proofs.Sums.{sum-ext, along-mono}
 use Rattle.model.proofs.Cycles.{ranked}
-use Rattle.model.proofs.Shares.{volume-by-vertex}
+use Rattle.model.proofs.Shares.{share, toll, share-toll, volume-by-vertex}
 use Rattle.model.proofs.Longest.{greatest-exists, new-b-1-unique}
 use Rattle.model.proofs.Joined.{without, without-at, without-other, without-le, since}
 use Rattle.model.proofs.Alike.{alike-back, wcet-alike, wcet-well-formed, greatest-alike}
@@ -59,11 +58,8 @@ unfolding scaled withWcet
 scaled-without G v = fun-ext (λ u. pick-times (eqb u v) (G .wcet u) (PARTS - PARTS / G .cores (G .kind u)))
 
 pub share-and-scaled : (G : Graph) (v : ℕ) → scaled G v + shareOf G v ≡ G .wcet v * PARTS
-unfolding scaled
-share-and-scaled G v =
-    let h : PARTS / G .cores (G .kind v) ≤ PARTS = div-le-self PARTS (G .cores (G .kind v)) in
-    let e : (PARTS - PARTS / G .cores (G .kind v)) + PARTS / G .cores (G .kind v) ≡ PARTS = omega arith in
-    omega (arith, ap (λ (z : ℕ). G .wcet v * z) e)
+unfolding scaled share toll
+share-and-scaled G v = omega (arith, ap (λ (z : ℕ). G .wcet v * z) (share-toll G v))
 
 -- the longest path where the WCET of v is 0
 wcet-greatest : (G : Graph) (v : ℕ) {x : ℕ} → Greatest G (along (without (scaled G) v)) x → Greatest (withWcet G v 0) (along (scaled (withWcet G v 0))) x

@@ -16,11 +16,18 @@ pub mod Tests
 pub mod Potential
 pub mod Tick
 pub mod Same
--- The bounds: parts of a tick, the largest sum along a path, NEW-B-1 and OLD-B:
+-- The bounds: parts of a tick, the largest sum along a path, NEW-B-1 and OLD-B; the number of complete paths; NEW-B-2:
 pub mod Shares
 pub mod Longest
 pub mod NewB1
 pub mod Compare
+pub mod Numbered
+pub mod Counted
+pub mod Ways
+pub mod Parallel
+pub mod Values
+pub mod NewB2
+pub mod Visit
 -- Gains: paths put together and taken apart, sums that end and start at a vertex, the longest path without a vertex's weight, the ranking:
 pub mod Joined
 pub mod Summaries
@@ -28,6 +35,9 @@ pub mod Scanned
 pub mod Alike
 pub mod Gains
 pub mod Rankings
+-- Better hardware, less work, fewer edges:
+pub mod Better
+pub mod Removed
 -- The theorem of demand 3:
 pub mod Demand3
 -- Schedules that name their cores: that they are the work-conserving ones, and demand 3 for them:

@@ -8,8 +8,8 @@ use mathlib.Core.Path.{_≡_, refl, ap, sym}
 use mathlib.Core.List.{List, [], _∷_}
 use mathlib.Core.Logic.{_⊎_, inl, inr}
 use mathlib.Core.Bool.{Bool, true, false}
-use Prim.Native.Nat.{ℕ, zero, suc, _+_, _-_, _*_, _/_, _≤_, _<_}
-use native.Mathlib.Nat.{mul-le-mul-right, div-le-self}
+use Prim.Native.Nat.{ℕ, zero, suc, _+_, _*_, _/_, _≤_, _<_}
+use native.Mathlib.Nat.{mul-le-mul-right}
 use native.Mathlib.Omega.{arith}
 use Rattle.model.specs.Places.{sum, along}
 use Rattle.model.specs.Graph.{Graph, WellFormed}
@@ -24,22 +24,7 @@ use Rattle.model.proofs.Paths.{head-known, along-path}
 use Rattle.model.proofs.Finished.{left-run}
 use Rattle.model.proofs.Tick.{less, falls, wait-drop}
 use Rattle.model.proofs.Potential.{late}
-use Rattle.model.proofs.Shares.{share-exact, volume-by-vertex}
-
--- the share of a tick that one core of v's kind is, and the rest of the tick
-share : Graph → ℕ → ℕ
-share G v = PARTS / G .cores (G .kind v)
-
-toll : Graph → ℕ → ℕ
-toll G v = PARTS - PARTS / G .cores (G .kind v)
-
-share-toll : (G : Graph) (v : ℕ) → share G v + toll G v ≡ PARTS
-unfolding share toll
-share-toll G v = omega (arith, div-le-self PARTS (G .cores (G .kind v)))
-
-share-of : (G : Graph) (v s : ℕ) → G .kind v ≡ s → share G v ≡ PARTS / G .cores s
-unfolding share
-share-of G v s e = rw e
+use Rattle.model.proofs.Shares.{share, toll, share-toll, share-of, share-exact, volume-by-vertex}
 
 value : Graph → (ℕ → ℕ) → List ℕ → ℕ
 value G c p = along (λ v. c v * toll G v) p + sum (λ v. c v * share G v) (G .n)
@@ -69,7 +54,7 @@ module _ {G : Graph} (W : WellFormed G) (A : Acyclic G) {S : Schedule} (C : Work
       omega (
         arith,
         along-mono (λ v. left S (suc t) v * toll G v) (λ v. left S t v * toll G v) (u ∷ p) (falls S (toll G) t),
-        wait-drop W A C t u r l x PARTS (share G) (share-exact W (G .kind u) (W .kind-known u l)) (λ v k e. share-of G v (G .kind u) e),
+        wait-drop W A C t u r l x PARTS (share G) (share-exact W (G .kind u) (W .kind-known u l)) (λ v k a e. share-of G v (G .kind u) e),
       )
 
   tick : (t u : ℕ) (p : List ℕ) → Ready G (left S t) u → ToSink G (u ∷ p) → value G (left S (suc t)) (u ∷ p) + PARTS ≤ value G (left S t) (u ∷ p)

@@ -2,7 +2,7 @@
 use mathlib.Core.Path.{_≡_, refl, ap, sym, _∙_}
 use mathlib.Core.Bool.{Bool, true, false}
 use Prim.Native.Nat.{ℕ, zero, suc, _+_, _-_, _*_, _/_, _≤_, _<_}
-use native.Mathlib.Nat.{mul-div-cancel, le-div-iff-mul-le, div-mul-le-self, mul-le-mul-left}
+use native.Mathlib.Nat.{mul-div-cancel, le-div-iff-mul-le, div-mul-le-self, mul-le-mul-left, div-le-self}
 use native.Mathlib.Omega.{arith}
 use lib.Dec.{eqb}
 use borrow.Author.Tests.{eqb-true}
@@ -29,6 +29,21 @@ share-falls L a b h l = le-div-iff-mul-le h .1 (omega (arith, div-mul-le-self L 
 -- x parts in m shares
 pub exact : (x m : ℕ) → 0 < m → m * (PARTS / m) ≡ PARTS → x * PARTS / m ≡ x * (PARTS / m)
 exact x m h e = ap (λ (y : ℕ). x * y / m) (sym e) ∙ (ap (λ (y : ℕ). y / m) (omega arith) ∙ mul-div-cancel (x * (PARTS / m)) h)
+
+-- the share of a tick that one core of v's kind is, and the rest of the tick
+unfoldable pub share : Graph → ℕ → ℕ
+share G v = PARTS / G .cores (G .kind v)
+
+unfoldable pub toll : Graph → ℕ → ℕ
+toll G v = PARTS - PARTS / G .cores (G .kind v)
+
+pub share-toll : (G : Graph) (v : ℕ) → share G v + toll G v ≡ PARTS
+unfolding share toll
+share-toll G v = omega (arith, div-le-self PARTS (G .cores (G .kind v)))
+
+pub share-of : (G : Graph) (v s : ℕ) → G .kind v ≡ s → share G v ≡ PARTS / G .cores s
+unfolding share
+share-of G v s e = rw e
 
 -- the volume as a sum over the vertices
 pub volume-by-vertex : {G : Graph} → WellFormed G → volume G ≡ sum (λ v. G .wcet v * (PARTS / G .cores (G .kind v))) (G .n)

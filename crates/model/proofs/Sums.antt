@@ -53,6 +53,11 @@ unfolding sum
 sum-add f g zero = refl
 sum-add f g (suc n) = omega (arith, sum-add f g n)
 
+pub sum-scale : (f : ℕ → ℕ) (c n : ℕ) → sum (λ v. f v * c) n ≡ sum f n * c
+unfolding sum
+sum-scale f c zero = omega arith
+sum-scale f c (suc n) = omega (arith, sum-scale f c n)
+
 -- no term above c
 pub sum-most : (f : ℕ → ℕ) (c n : ℕ) → ((v : ℕ) → v < n → f v ≤ c) → sum f n ≤ c * n
 unfolding sum
@@ -62,6 +67,16 @@ sum-most f c (suc n) h = omega (arith, sum-most f c n (λ v l. h v (omega arith)
 pub sum-more : (f : ℕ → ℕ) (n : ℕ) → sum f (suc n) ≡ sum f n + f n
 unfolding sum
 sum-more f n = refl
+
+-- more places hold no less
+pub sum-up : (f : ℕ → ℕ) (m n : ℕ) → m ≤ n → sum f m ≤ sum f n
+unfolding sum
+sum-up f m zero l = let e : m ≡ 0 = omega arith in rw e (omega arith)
+sum-up f m (suc n) l = go (ℕ-discrete m (suc n)) (λ k. sum-up f m n k)
+  where
+    go : Dec (m ≡ suc n) → (m ≤ n → sum f m ≤ sum f n) → sum f m ≤ sum f n + f n
+    go (yes e) ih = rw e (omega arith)
+    go (no e) ih = omega (arith, ih (omega arith))
 
 -- ---- sums and counts
 
@@ -128,7 +143,7 @@ along-scale f c (v ∷ p) = omega (arith, along-scale f c p)
 -- ---- by kinds and by vertices
 
 -- the sum of the terms at k alone
-sum-single : (f : ℕ → ℕ) (k n : ℕ) → k < n → sum (λ s. bit (eqb k s) * f s) n ≡ f k
+pub sum-single : (f : ℕ → ℕ) (k n : ℕ) → k < n → sum (λ s. bit (eqb k s) * f s) n ≡ f k
 unfolding sum
 sum-single f k zero l = absurd (omega arith)
 sum-single f k (suc n) l = go (ℕ-discrete k n) (λ m. sum-single f k n m)

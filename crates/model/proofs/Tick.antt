@@ -49,7 +49,7 @@ module _ {G : Graph} (W : WellFormed G) (A : Acyclic G) {S : Schedule} (C : Work
 
     -- and the sum falls by a whole tick, where each that runs beside it weighs a core's share
     pub wait-drop : (L : ℕ) (w : ℕ → ℕ) → G .cores (G .kind u) * (L / G .cores (G .kind u)) ≡ L
-        → ((v : ℕ) → v < G .n → G .kind v ≡ G .kind u → w v ≡ L / G .cores (G .kind u))
+        → ((v : ℕ) → v < G .n → S .runs t v ≡ true → G .kind v ≡ G .kind u → w v ≡ L / G .cores (G .kind u))
         → sum (λ v. left S (suc t) v * w v) (G .n) + L ≤ sum (λ v. left S t v * w v) (G .n)
     wait-drop L w whole h =
         omega (
@@ -64,7 +64,7 @@ module _ {G : Graph} (W : WellFormed G) (A : Acyclic G) {S : Schedule} (C : Work
         each v k (inr y) = rw (bit-zero (runsOf G S t (G .kind u) v) y) (omega (arith, falls S w t v))
         each v k (inl y) =
             let a : S .runs t v ≡ true = left-of (S .runs t v) _ y in
-            rw (bit-one (runsOf G S t (G .kind u) v) y, ← (h v k (eqb-true (G .kind v) (G .kind u) (right-of (S .runs t v) _ y))))
+            rw (bit-one (runsOf G S t (G .kind u) v) y, ← (h v k a (eqb-true (G .kind v) (G .kind u) (right-of (S .runs t v) _ y))))
             (omega (arith, less (left S (suc t) v) (left S t v) (w v) (left-run S t (C .runs-ready t v k a) a)))
 
   -- while a vertex is ready, work is done
@@ -84,7 +84,7 @@ module _ {G : Graph} (W : WellFormed G) (A : Acyclic G) {S : Schedule} (C : Work
             pos,
             times-one t,
             times-one (suc t),
-            wait-drop x (G .cores (G .kind u)) (λ v. 1) (rw one (omega arith)) (λ v k e. rw one),
+            wait-drop x (G .cores (G .kind u)) (λ v. 1) (rw one (omega arith)) (λ v k a e. rw one),
           )
 
 -- THEOREM. While a vertex is unfinished, work is done in each tick of a work-conserving schedule.

@@ -32,7 +32,7 @@ pub sum-next : (f : ℕ → ℕ) (n : ℕ) → sum f (n + 1) ≡ sum f n + f n
 unfolding sum
 sum-next f n = rw add-one refl
 
--- places from n on at which the test does not hold change no count
+-- places from n on at which the test does not hold change no count, and no sum where nothing stands
 pub count-past : (p : ℕ → Bool) (n m : ℕ) → n ≤ m → ((v : ℕ) → n ≤ v → v < m → p v ≡ false) → count p m ≡ count p n
 unfolding count
 count-past p n zero l h = let z : n ≡ 0 = omega arith in rw z refl
@@ -41,6 +41,15 @@ count-past p n (suc m) l h = go (ℕ-discrete n (suc m)) (λ k. count-past p n m
     go : Dec (n ≡ suc m) → (n ≤ m → count p m ≡ count p n) → count p (suc m) ≡ count p n
     go (yes e) ih = rw e refl
     go (no e) ih = count-not-there p m (h m (omega arith) (omega arith)) ∙ ih (omega arith)
+
+pub sum-past : (f : ℕ → ℕ) (n m : ℕ) → n ≤ m → ((v : ℕ) → n ≤ v → v < m → f v ≡ 0) → sum f m ≡ sum f n
+unfolding sum
+sum-past f n zero l h = let z : n ≡ 0 = omega arith in rw z refl
+sum-past f n (suc m) l h = go (ℕ-discrete n (suc m)) (λ k. sum-past f n m k (λ v a b. h v a (omega arith)))
+  where
+    go : Dec (n ≡ suc m) → (n ≤ m → sum f m ≡ sum f n) → sum f m + f m ≡ sum f n
+    go (yes e) ih = rw e refl
+    go (no e) ih = omega (arith, h m (omega arith) (omega arith), ih (omega arith))
 
 pub table-ext : (f g : ℕ → ℕ) (n : ℕ) → ((v : ℕ) → v < n → f v ≡ g v) → table f n ≡ table g n
 unfolding table

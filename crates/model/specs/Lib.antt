@@ -4,9 +4,13 @@ pub mod Graph
 pub mod Cycle
 pub mod Path
 pub mod Bounds
+pub mod Second
+pub mod PathCount
+pub mod Visit
 pub mod Gain
 pub mod Summary
 pub mod Ranking
+pub mod Better
 pub mod Schedule
 pub mod Placing
 pub mod ListSchedule
