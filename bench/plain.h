@@ -1,4 +1,4 @@
-/* The planner's work in plain C, to be timed beside the proved one: no proofs, arrays on the stack, the refusals 1 to 16. */
+/* The planner's work in plain C, to be timed beside the proved one: no proofs, arrays on the stack, the refusals 1 to 17. */
 #ifndef PLAIN_H
 #define PLAIN_H
 
@@ -34,6 +34,11 @@ struct plain_finish {
     uint64_t finish;
 };
 
+struct plain_second {
+    uint32_t number, place;
+    uint64_t parts;
+};
+
 struct plain_record {
     size_t n;
     uint64_t instant;
@@ -57,5 +62,6 @@ struct plain_step plain_tick(struct plain_record run, const uint8_t *file, size_
 struct plain_finish plain_run(const uint8_t *file, size_t length, const uint32_t *times, size_t count, uint32_t *finishes, size_t room);
 struct plain_count plain_gains(const uint8_t *file, size_t length, uint64_t *gains, size_t room);
 struct plain_count plain_gains_altered(const uint8_t *file, size_t length, uint32_t vertex, uint32_t wcet, uint64_t *gains, size_t room);
+struct plain_second plain_second(const uint8_t *file, size_t length);
 
 #endif

@@ -42,6 +42,9 @@
 
 #define PLANNER_PARTS_PER_TICK 720720
 
+/* Complete paths, from a source to a sink, of a graph that gets NEW-B-2. */
+#define PLANNER_MOST_PATHS 4096
+
 /* The stack that a call needs, in bytes, with its answer and what it is handed by value: no call needs more than 16,384. Measured over the
    requests of tests/, which reach every limit and every refusal, and rounded up to pages of 4,096 bytes with 512 to spare at the least: no
    theorem bounds it, and docs/STACK.md has the measures. What a signal handler needs comes on top, and what the system's loader needs where
@@ -56,6 +59,7 @@
 #define PLANNER_STACK_RUN 12288
 #define PLANNER_STACK_GAINS 12288
 #define PLANNER_STACK_GAINS_ALTERED 16384
+#define PLANNER_STACK_SECOND 16384
 
 #ifdef __cplusplus
 #define PLANNER_SIZE(type, size) static_assert(sizeof(type) == (size), "the library lays " #type " out otherwise")
@@ -138,6 +142,13 @@ typedef struct PlannerFinish {
 } PlannerFinish;
 PLANNER_SIZE(PlannerFinish, 16);
 
+typedef struct PlannerSecond {
+    uint32_t number;
+    uint32_t place;
+    uint64_t parts; /* NEW-B-2 in parts; 0 beside a refusal */
+} PlannerSecond;
+PLANNER_SIZE(PlannerSecond, 16);
+
 /* Reads a file: its counts and lists. Refuses with 1 to 11. */
 PlannerGraph planner_read(const uint8_t *file, size_t file_length);
 
@@ -183,6 +194,11 @@ PlannerCount planner_gains(const uint8_t *file, size_t file_length, uint64_t *ga
    15. */
 PlannerCount planner_gains_altered(const uint8_t *file, size_t file_length, uint32_t vertex, uint32_t wcet, uint64_t *gains,
                                    size_t gains_length);
+
+/* The bound NEW-B-2 of a file's graph, which counts on each path only those other vertices that can take a core from one of its own. It is at
+   most NEW-B-1, and no work-conserving schedule of the graph ends after it: in whole ticks it is `parts` / 720720, rounded down. Refuses with
+   1 to 11, then 17 at 0 (the graph has more than 4,096 complete paths; NEW-B-1 has no such limit). */
+PlannerSecond planner_second(const uint8_t *file, size_t file_length);
 
 #ifdef __cplusplus
 }

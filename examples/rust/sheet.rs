@@ -93,6 +93,7 @@ mod planner {
             finishes: *mut u32,
             finishes_length: usize,
         ) -> Answer<u64>;
+        fn planner_second(file: *const u8, file_length: usize) -> Answer<u64>;
         fn planner_gains(file: *const u8, file_length: usize, gains: *mut u64, gains_length: usize) -> Answer<u64>;
         fn planner_gains_altered(
             file: *const u8,
@@ -113,6 +114,14 @@ mod planner {
 
     pub fn bounds(file: &[u8]) -> Result<Bounds, Refusal> {
         unsafe { planner_bounds(file.as_ptr(), file.len()) }.told()
+    }
+
+    /// NEW-B-2 in parts of a tick, or none where the graph has too many complete paths for it.
+    pub fn second(file: &[u8]) -> Result<Option<u64>, Refusal> {
+        match unsafe { planner_second(file.as_ptr(), file.len()) }.told() {
+            Err(Refusal { number: 17, .. }) => Ok(None),
+            told => told.map(Some),
+        }
     }
 
     /// How many vertices of `out` the path takes.
@@ -179,6 +188,7 @@ fn sheet(file: &[u8]) -> Result<(), planner::Refusal> {
     println!("graph {} {} {}", graph.kinds, graph.n, graph.edges);
     println!("old {}", bounds.old_b);
     println!("new {}", bounds.new_b_1);
+    println!("second {}", planner::second(file)?.map_or("none".to_string(), |parts| parts.to_string()));
     println!("ticks {}", bounds.ticks);
     println!("path {}", words(&path[..count]));
     let mut gains = vec![0; graph.n];

@@ -327,6 +327,17 @@ static void letter_a(void)
     tell_gains(planner_gains_altered(file.at, file.length, vertex, wcet, gains.at, gains.length), gains);
 }
 
+static void letter_n(void)
+{
+    struct list file = take_list(1);
+    if (!all_taken())
+        return;
+    PlannerSecond a = planner_second(file.at, file.length);
+    if (refused(a.number, a.place, "second"))
+        text(" second");
+    field(a.parts);
+}
+
 static struct letter {
     char letter;
     void (*answer)(void);
@@ -344,6 +355,7 @@ static struct letter {
     {'X', letter_x, "planner_run", PLANNER_STACK_RUN, 0},
     {'G', letter_g, "planner_gains", PLANNER_STACK_GAINS, 0},
     {'A', letter_a, "planner_gains_altered", PLANNER_STACK_GAINS_ALTERED, 0},
+    {'N', letter_n, "planner_second", PLANNER_STACK_SECOND, 0},
 };
 enum { LETTERS = sizeof letters / sizeof letters[0] };
 

@@ -4,6 +4,7 @@ use super::graphs::{chain, exactly};
 use super::lists::{edge, file_of as file_of_records, lists_of, records_of};
 use super::random::Random;
 use super::request::{self, Request, LARGEST_ROOM, LONGEST_PAYLOAD};
+use super::ways;
 use crate::reference::graph::{Graph, LONGEST_FILE, MOST_VERTICES, MOST_WCET};
 use crate::reference::reader::read;
 use crate::reference::record::{RunRecord, LATEST};
@@ -21,6 +22,9 @@ pub fn catalogue() -> Vec<Request> {
     requests.extend(instants_at_the_limit());
     requests.extend(gains_at_the_limits());
     requests.extend(alterations_of_refused_files());
+    for file in numbers_of_paths().iter().map(file_of) {
+        requests.extend([request::bounds(&file), request::second(&file)]);
+    }
     requests
 }
 
@@ -93,6 +97,21 @@ pub fn source_of_no_time() -> Lists {
     Lists { wcets: vec![3, 0], edges: vec![edge(1, 0)], ..two_without_an_edge() }
 }
 
+/// The graphs of docs/orders/04.md. Vertex 3 is parallel to two vertices of a path, vertex 4 to none.
+pub fn parallel_to_two() -> Lists {
+    Lists {
+        cores: vec![2, 3],
+        kinds: vec![0, 0, 0, 0, 1, 1],
+        wcets: vec![2, 3, 4, 6, 5, 1],
+        edges: [(0, 1), (0, 3), (0, 4), (1, 2), (2, 5), (3, 5), (4, 5)].map(|(u, v)| edge(u, v)).to_vec(),
+    }
+}
+
+/// Two sources that wait for one core.
+pub fn two_sources() -> Lists {
+    Lists { cores: vec![1, 2], kinds: vec![0, 0, 1], wcets: vec![3, 5, 2], edges: vec![edge(0, 2), edge(1, 2)] }
+}
+
 fn worked_cases() -> Vec<Vec<u8>> {
     let altered = |change: &dyn Fn(&mut Lists)| {
         let mut lists = case_a();
@@ -115,6 +134,8 @@ fn worked_cases() -> Vec<Vec<u8>> {
         cores_for_no_time(),
         two_without_an_edge(),
         source_of_no_time(),
+        parallel_to_two(),
+        two_sources(),
     ];
     cases.iter().map(|lists| file_of_records(&records_of(lists))).collect()
 }
@@ -219,6 +240,7 @@ fn questions_of(file: &[u8]) -> Vec<Request> {
         request::gains(file, n.saturating_sub(1)),
         request::gains_altered(file, 0, 0, n),
         request::gains_altered(file, n as u64, MOST_WCET as u64 + 1, 0),
+        request::second(file),
     ]
 }
 
@@ -343,6 +365,28 @@ fn alterations_of_refused_files() -> Vec<Request> {
         requests.extend([3, MOST_WCET + 1].map(|wcet| request::gains_altered(&file, vertex, wcet as u64, 4)));
     }
     requests
+}
+
+/// The most complete paths that get the bound and one more, what would look like few where 16, 32 or 64 bits wrap, and more
+/// than anything but 128 bits holds.
+pub fn numbers_of_paths() -> Vec<Graph> {
+    let random = &mut Random::new(0, 5);
+    let mut graphs = vec![ways::pairs(), ways::densest(random), ways::densest(random)];
+    for before in [0, 54, 109] {
+        graphs.extend([false, true].map(|one_more| ways::longest(random, before, one_more)));
+    }
+    for paths in [1, 2, 4_095, 4_096, 4_096, 4_096, 4_097, 4_097, 4_097, 4_098, 8_192] {
+        graphs.push(ways::with_paths(random, paths));
+    }
+    for bits in [16, 32, 63, 64] {
+        for more in [0, 1, 2, 4_095, 4_096, 4_097] {
+            graphs.push(ways::with_paths(random, (1 << bits) + more));
+        }
+    }
+    // three rows of 16, each vertex with edges to all of the next row: 4,096 complete paths; and a vertex beside them
+    let rows: Vec<(u8, u8)> = (0..32).flat_map(|v| (0..16).map(move |w| (v, v / 16 * 16 + 16 + w))).collect();
+    graphs.extend([48, 49].map(|n| with_edges(chain(n, 3, 5), &rows)));
+    graphs
 }
 
 fn graph_of(lists: &Lists) -> Graph {

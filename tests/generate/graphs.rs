@@ -169,7 +169,7 @@ fn loosen(random: &mut Random, n: usize, edges: &mut BTreeSet<(usize, usize)>) {
 }
 
 /// An edge between two positions, where there are two.
-fn upward(random: &mut Random, n: usize) -> Option<(usize, usize)> {
+pub fn upward(random: &mut Random, n: usize) -> Option<(usize, usize)> {
     let (p, q) = (random.below(n), random.below(n));
     (p != q).then_some((p.min(q), p.max(q)))
 }
@@ -179,7 +179,7 @@ fn numbered(random: &mut Random, n: usize, layout: &BTreeSet<(usize, usize)>) ->
 }
 
 /// The vertex number of each position: upwards, downwards, or anyhow.
-fn numbers(random: &mut Random, n: usize) -> Vec<u8> {
+pub fn numbers(random: &mut Random, n: usize) -> Vec<u8> {
     let mut number: Vec<u8> = (0..n as u8).collect();
     match random.below(4) {
         0 => {}
@@ -190,7 +190,7 @@ fn numbers(random: &mut Random, n: usize) -> Vec<u8> {
 }
 
 /// The positions' edges as edges between vertices.
-fn edges_between(number: &[u8], layout: &BTreeSet<(usize, usize)>) -> Vec<(u8, u8)> {
+pub fn edges_between(number: &[u8], layout: &BTreeSet<(usize, usize)>) -> Vec<(u8, u8)> {
     let mut edges: Vec<(u8, u8)> = layout.iter().map(|&(p, q)| (number[p], number[q])).collect();
     edges.sort_unstable();
     edges
@@ -198,7 +198,7 @@ fn edges_between(number: &[u8], layout: &BTreeSet<(usize, usize)>) -> Vec<(u8, u
 
 /// The cores of each kind, and the kinds that vertices may have. The others are none, one, all but one or any number of
 /// them, wherever they stand; every other time one of them has the most cores that a kind can have.
-fn board(random: &mut Random, kinds: usize) -> (Vec<u8>, Vec<u8>) {
+pub fn board(random: &mut Random, kinds: usize) -> (Vec<u8>, Vec<u8>) {
     let most = random.pick(&[1, 2, 3, MOST_CORES, MOST_CORES]);
     let mut cores: Vec<u8> = (0..kinds).map(|_| random.between(1, most as usize) as u8).collect();
     let any = random.below(kinds);
@@ -213,13 +213,13 @@ fn board(random: &mut Random, kinds: usize) -> (Vec<u8>, Vec<u8>) {
 }
 
 /// Each of the kinds that are used has a vertex, where there are enough.
-fn kinds_of_vertices(random: &mut Random, used: &[u8], n: usize) -> Vec<u8> {
+pub fn kinds_of_vertices(random: &mut Random, used: &[u8], n: usize) -> Vec<u8> {
     let mut kinds: Vec<u8> = (0..n).map(|v| used.get(v).copied().unwrap_or_else(|| random.pick(used))).collect();
     random.shuffle(&mut kinds);
     kinds
 }
 
-fn wcets(random: &mut Random, n: usize, most: u32) -> Vec<u32> {
+pub fn wcets(random: &mut Random, n: usize, most: u32) -> Vec<u32> {
     let style = random.below(4);
     let one = |random: &mut Random| match style {
         0 => most,

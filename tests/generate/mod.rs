@@ -2,6 +2,7 @@
 //!
 //!   random     the generator of numbers
 //!   graphs     accepted graphs
+//!   ways       accepted graphs with a given number of complete paths
 //!   lists      the writer's lists, and their file without any judging
 //!   faults     a fault planted for each number that says no
 //!   damage     blind damage to a file
@@ -23,3 +24,4 @@ pub mod random;
 pub mod request;
 pub mod runs;
 pub mod stream;
+pub mod ways;

@@ -83,6 +83,10 @@ pub fn gains_altered(file: &[u8], vertex: u64, wcet: u64, room: usize) -> Reques
     Request::of(b'A').list(file).number(vertex).number(wcet).number(room as u64)
 }
 
+pub fn second(file: &[u8]) -> Request {
+    Request::of(b'N').list(file)
+}
+
 fn words(list: &[u32]) -> Vec<u8> {
     list.iter().flat_map(|w| w.to_le_bytes()).collect()
 }

@@ -11,6 +11,7 @@ use super::malformed::spoilt;
 use super::random::Random;
 use super::request::{self, Request, LARGEST_ROOM};
 use super::runs::{any_times, damaged, reached, unreached};
+use super::ways;
 use crate::reference::graph::{Graph, MOST_WCET, RECORD};
 use crate::reference::writer::{file_of, Lists};
 
@@ -33,7 +34,7 @@ impl Stream {
 }
 
 fn any_request(random: &mut Random) -> Request {
-    let request = match random.below(24) {
+    let request = match random.below(28) {
         0..=3 => request::read(&any_file(random, 3).1),
         4..=5 => any_write(random),
         6..=7 => request::bounds(&any_file(random, 8).1),
@@ -42,7 +43,8 @@ fn any_request(random: &mut Random) -> Request {
         11..=13 => any_tick(random),
         14..=15 => any_run(random),
         16..=19 => any_gains(random),
-        _ => any_gains_altered(random),
+        20..=23 => any_gains_altered(random),
+        _ => any_second(random),
     };
     if random.one_in(20) {
         spoilt(random, request)
@@ -153,6 +155,14 @@ fn any_tick(random: &mut Random) -> Request {
 fn any_run(random: &mut Random) -> Request {
     let (graph, file) = any_file(random, 8);
     request::run(&file, &any_times(random, &graph), any_room(random, graph.vertices()))
+}
+
+/// Every other graph is made to have a number of complete paths.
+fn any_second(random: &mut Random) -> Request {
+    if random.one_in(2) {
+        return request::second(&any_file(random, 5).1);
+    }
+    request::second(&file_of(&ways::any(random)))
 }
 
 /// One time in four a graph that is made to have several longest paths.

@@ -7,6 +7,7 @@ use crate::reference::reader::read;
 use crate::reference::record::RunRecord;
 use crate::reference::refusal::Refusal;
 use crate::reference::schedule::{run, start, tick, Ticked};
+use crate::reference::second::second;
 use crate::reference::writer::{write, Lists};
 use std::fmt::Display;
 use std::io::{Read, Write};
@@ -31,6 +32,7 @@ pub fn answer(request: &Request) -> String {
         b'X' => answer_run(fields),
         b'G' => answer_gains(fields),
         b'A' => answer_gains_altered(fields),
+        b'N' => answer_second(fields),
         _ => None,
     };
     line.unwrap_or(BAD.to_string())
@@ -192,6 +194,15 @@ fn answer_gains_altered(mut fields: Fields) -> Option<String> {
     let room = fields.room()?;
     fields.end()?;
     Some(told_gains(read(file).and_then(|graph| gains_altered(&graph, vertex, wcet, room)), room))
+}
+
+fn answer_second(mut fields: Fields) -> Option<String> {
+    let file = fields.list()?;
+    fields.end()?;
+    Some(match read(file).and_then(|graph| second(&graph)) {
+        Err(refusal) => format!("{} second 0", refused(refusal)),
+        Ok(parts) => format!("second {parts}"),
+    })
 }
 
 fn told_gains(outcome: Result<Vec<u64>, Refusal>, room: usize) -> String {

@@ -12,7 +12,7 @@ use std::collections::BTreeMap;
 
 /// What can be answered to each letter: 12 never. `-` is any request that isn't one. A 7 of A is the file's own; the two
 /// 7s of what is altered have words: `vertex` where the graph doesn't have it, `wcet` where the new one is above the limit.
-const POSSIBLE: [(char, &str, &[u32]); 11] = [
+const POSSIBLE: [(char, &str, &[u32]); 12] = [
     ('R', "graph", &[1, 2, 3, 4, 5, 6, 7, 8, 9, 10, 11]),
     ('W', "wrote", &[4, 5, 6, 7, 8, 9, 10, 11, 13, 15]),
     ('B', "old", &[1, 2, 3, 4, 5, 6, 7, 8, 9, 10, 11]),
@@ -23,6 +23,7 @@ const POSSIBLE: [(char, &str, &[u32]); 11] = [
     ('X', "finish", &[1, 2, 3, 4, 5, 6, 7, 8, 9, 10, 11, 13, 14, 15]),
     ('G', "gains", &[1, 2, 3, 4, 5, 6, 7, 8, 9, 10, 11, 15]),
     ('A', "gains vertex wcet", &[1, 2, 3, 4, 5, 6, 7, 8, 9, 10, 11, 15]),
+    ('N', "second", &[1, 2, 3, 4, 5, 6, 7, 8, 9, 10, 11, 17]),
     ('-', "bad", &[]),
 ];
 
@@ -118,12 +119,12 @@ fn missing_and_impossible(table: &BTreeMap<(char, String), u64>) -> Vec<String> 
 fn print_table(table: &BTreeMap<(char, String), u64>) {
     let count = |letter: char, kind: &str| table.get(&(letter, kind.to_string())).copied().unwrap_or(0);
     print!("{:<3}{:>32}", "", "answered");
-    (1..=16).for_each(|number| print!("{number:>6}"));
+    (1..=17).for_each(|number| print!("{number:>6}"));
     println!();
     for (letter, words, _) in POSSIBLE {
         let answered: Vec<String> = words.split(' ').map(|word| format!("{word} {}", count(letter, word))).collect();
         print!("{letter:<3}{:>32}", answered.join(", "));
-        for number in 1..=16 {
+        for number in 1..=17 {
             match count(letter, &number.to_string()) {
                 0 => print!("{:>6}", "."),
                 many => print!("{many:>6}"),

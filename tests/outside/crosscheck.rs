@@ -1,31 +1,39 @@
-//! The reference against itself by second ways: all complete paths written out, bounds as fractions, gains by the paths
-//! without a vertex's time, alterations in the file's own bytes, runs tick by tick, a planted fault for each number and
-//! each pair of them, and the values worked on paper.
+//! The reference against itself by second ways: all complete paths written out, bounds as fractions, ancestors by who
+//! stands before whom on these paths, gains by the paths without a vertex's time, alterations in the file's own bytes,
+//! runs tick by tick, a planted fault for each number and each pair of them, and the values worked on paper.
 
 use crate::compare::hex;
 use crate::generate::altered;
-use crate::generate::catalogue::{case_a, case_d, case_f, cores_for_no_time, middle_of_no_time, source_of_no_time, two_longest_paths};
-use crate::generate::catalogue::{two_without_an_edge, type_of_one_core, unused_cores};
+use crate::generate::catalogue::{
+    case_a, case_d, case_f, cores_for_no_time, middle_of_no_time, source_of_no_time, two_longest_paths,
+};
+use crate::generate::catalogue::{
+    numbers_of_paths, parallel_to_two, two_sources, two_without_an_edge, type_of_one_core, unused_cores,
+};
 use crate::generate::faults::file_with;
 use crate::generate::graphs::{of, to_be_damaged, twins};
 use crate::generate::lists::{edge, file_of as file_of_records, lists_of, records_of};
 use crate::generate::random::Random;
 use crate::generate::runs::times;
+use crate::generate::ways;
 use crate::options::Options;
 use crate::reference::bounds::{bounds, least_path, Bounds};
 use crate::reference::gains::{gains, gains_altered, gains_of, ranking, with_wcet};
 use crate::reference::graph::{Graph, MOST_CORES, MOST_WCET, PARTS_IN_A_TICK, RECORD};
+use crate::reference::order::topological;
 use crate::reference::reader::read;
 use crate::reference::record::finished;
 use crate::reference::refusal::Refusal;
 use crate::reference::schedule::{record_at, run, spans, start, tick, Ticked};
+use crate::reference::second::{second, values, Ways, MOST_PATHS};
 use crate::reference::sheet::sheet;
 use crate::reference::writer::{file_of, write, Lists};
 
-const EXAMPLES: [(&[u8], u64); 3] = [
-    (include_bytes!("../examples/example-1.graph"), 930),
-    (include_bytes!("../examples/example-2.graph"), 468),
-    (include_bytes!("../examples/example-3.graph"), 320),
+/// OLD-B and NEW-B-1, which are equal there, and NEW-B-2, in ticks.
+const EXAMPLES: [(&[u8], u64, u64); 3] = [
+    (include_bytes!("../examples/example-1.graph"), 930, 880),
+    (include_bytes!("../examples/example-2.graph"), 468, 468),
+    (include_bytes!("../examples/example-3.graph"), 320, 320),
 ];
 const SAMPLES: [(&[u8], &str); 3] = [
     (include_bytes!("../../samples/case-a.graph"), include_str!("../../samples/case-a.sheet")),
@@ -36,6 +44,8 @@ const SAMPLES: [(&[u8], &str); 3] = [
 pub fn faults(options: &Options) -> Vec<String> {
     let mut faults = worked_on_paper();
     faults.extend(gains_on_paper());
+    faults.extend(second_on_paper());
+    faults.extend(paths_counted());
     for place in 0..2_000 {
         let random = &mut Random::new(options.seed ^ 0x5E1F, place);
         let n = random.between(1, 10);
@@ -43,6 +53,7 @@ pub fn faults(options: &Options) -> Vec<String> {
         let same = round_trip_agrees(&graph)
             && paths_agree(&graph)
             && unused_agree(&graph)
+            && second_agrees(&graph)
             && gains_agree(&graph)
             && alteration_agrees(random, &graph)
             && runs_agree(random, &graph);
@@ -53,9 +64,20 @@ pub fn faults(options: &Options) -> Vec<String> {
     for place in 0..300 {
         let random = &mut Random::new(options.seed ^ 0x7715, place);
         let graph = twins(random);
-        let same =
-            paths_agree(&graph) && unused_agree(&graph) && gains_agree(&graph) && alteration_agrees(random, &graph);
+        let same = paths_agree(&graph)
+            && unused_agree(&graph)
+            && second_agrees(&graph)
+            && gains_agree(&graph)
+            && alteration_agrees(random, &graph);
         if !same {
+            faults.push(format!("two ways of the reference differ on {graph:?}"));
+        }
+    }
+    for place in 0..300 {
+        let graph = ways::any(&mut Random::new(options.seed ^ 0x2B2B, place));
+        let few = Ways::of(&graph).complete_paths() <= MOST_PATHS;
+        let same = if few { second_agrees(&graph) } else { second(&graph) == too_many_paths() };
+        if read(&file_of(&graph)).as_ref() != Ok(&graph) || !same {
             faults.push(format!("two ways of the reference differ on {graph:?}"));
         }
     }
@@ -114,6 +136,38 @@ fn unused_agree(graph: &Graph) -> bool {
         ..graph.clone()
     };
     [more, fewer].iter().all(|other| bounds(other) == bounds(graph))
+}
+
+/// NEW-B-2 by the paths alone, as a fraction of all kinds' cores: u is an ancestor of v where a complete path has u before
+/// v. It is no more than NEW-B-1, no less than the longest of the paths, and NEW-B-1 where all vertices have one type.
+fn second_agrees(graph: &Graph) -> bool {
+    let paths = complete_paths(graph);
+    let n = graph.vertices();
+    let mut on_one_path = vec![vec![false; n]; n];
+    for path in &paths {
+        path.iter().for_each(|&u| path.iter().for_each(|&v| on_one_path[u as usize][v as usize] = true));
+    }
+    let interferes = |path: &[u8], u: usize| {
+        path.iter().any(|&v| graph.kinds[v as usize] == graph.kinds[u] && !on_one_path[v as usize][u])
+    };
+    // over the product of the cores of all kinds; the WCETs of the path and of what interferes with it
+    let product: u128 = graph.cores.iter().map(|&cores| cores as u128).product();
+    let of_path = |path: &[u8]| path.iter().map(|&v| graph.wcets[v as usize] as u128).sum::<u128>();
+    let beside = |path: &[u8]| {
+        let all = (0..n).filter(|&u| interferes(path, u));
+        all.map(|u| graph.wcets[u] as u128 * (product / graph.cores_of(u) as u128)).sum::<u128>()
+    };
+    let most = paths.iter().map(|path| of_path(path) * product + beside(path)).max().unwrap();
+    let longest = paths.iter().map(|path| of_path(path)).max().unwrap() as u64;
+    let value = second(graph).unwrap();
+    Ways::of(graph).complete_paths() == paths.len() as u128
+        && value == one_part(most, product) as u64
+        && (longest * PARTS_IN_A_TICK..=bounds(graph).new).contains(&value)
+        && (value == bounds(graph).new || graph.kinds.iter().any(|&kind| kind != graph.kinds[0]))
+}
+
+fn too_many_paths() -> Result<u64, Refusal> {
+    Err(Refusal { number: 17, place: 0 })
 }
 
 /// Each gain is what the longest path and the volume lose together: the paths are all there, and v's time is left out of
@@ -220,7 +274,11 @@ fn worked_on_paper() -> Vec<String> {
     let finishes = |lists: &Lists, times: &[u32]| run(&graph(lists), times, 128);
 
     let a = case_a();
-    expect("A", sheet(&file(&a)) == "graph 2 4 4\nold 14174160\nnew 13693680\nticks 19\npath 0 1 3\ngains 1 0 2 3\n");
+    expect(
+        "A",
+        sheet(&file(&a))
+            == "graph 2 4 4\nold 14174160\nnew 13693680\nsecond 11531520\nticks 19\npath 0 1 3\ngains 1 0 2 3\n",
+    );
     expect("A, full times", finishes(&a, &a.wcets) == Ok(vec![4, 13, 10, 16]));
     let b = Lists { cores: vec![4, 3], ..a.clone() };
     expect("B", old_new(&b) == (13_333_320, 12_612_600));
@@ -235,7 +293,7 @@ fn worked_on_paper() -> Vec<String> {
     let f = case_f();
     expect(
         "F",
-        sheet(&file(&f)) == "graph 1 1 0\nold 0\nnew 0\nticks 0\npath 0\ngains 0\n"
+        sheet(&file(&f)) == "graph 1 1 0\nold 0\nnew 0\nsecond 0\nticks 0\npath 0\ngains 0\n"
             && finishes(&f, &[0]) == Ok(vec![0]),
     );
     expect("G", read(&[]) == Err(Refusal { number: 4, place: 0 }));
@@ -244,7 +302,11 @@ fn worked_on_paper() -> Vec<String> {
         |edges: &[(u8, u8)]| Lists { edges: edges.iter().map(|&(u, v)| edge(u, v)).collect(), ..a.clone() };
     expect("I", number(&with_edges(&[(0, 1), (0, 2), (1, 3), (2, 3), (3, 0)])) == Err(11));
     let j = with_edges(&[(0, 1), (1, 3), (2, 3)]);
-    expect("J", sheet(&file(&j)) == "graph 2 4 3\nold 14174160\nnew 13693680\nticks 19\npath 0 1 3\ngains 1 0 2 3\n");
+    expect(
+        "J",
+        sheet(&file(&j))
+            == "graph 2 4 3\nold 14174160\nnew 13693680\nsecond 13693680\nticks 19\npath 0 1 3\ngains 1 0 2 3\n",
+    );
     expect("J, full times", finishes(&j, &j.wcets) == Ok(vec![4, 13, 6, 16]));
     let two = two_without_an_edge();
     expect("two without an edge", old_new(&two) == (3_243_240, 3_243_240) && least_path(&graph(&two)) == [0]);
@@ -253,10 +315,11 @@ fn worked_on_paper() -> Vec<String> {
     expect("K", number(&with_edges(&[(0, 1), (0, 1), (0, 2), (1, 3), (2, 3)])) == Err(10));
     expect("L", finishes(&a, &[4, 10, 6, 3]) == Err(Refusal { number: 14, place: 1 }));
 
-    for (place, (bytes, ticks)) in EXAMPLES.iter().enumerate() {
+    for (place, (bytes, ticks, second_ticks)) in EXAMPLES.iter().enumerate() {
         let parts = ticks * PARTS_IN_A_TICK;
-        let same = read(bytes).map(|graph| bounds(&graph)) == Ok(Bounds { old: parts, new: parts, ticks: *ticks });
-        expect(&format!("example {}", place + 1), same);
+        let graph = read(bytes).unwrap();
+        let same = bounds(&graph) == Bounds { old: parts, new: parts, ticks: *ticks };
+        expect(&format!("example {}", place + 1), same && second(&graph) == Ok(second_ticks * PARTS_IN_A_TICK));
     }
     expect("the sample of case A", SAMPLES[0].0 == file(&a));
     SAMPLES.iter().for_each(|(bytes, text)| expect("a sample's sheet", sheet(bytes) == *text));
@@ -294,5 +357,96 @@ fn gains_on_paper() -> Vec<String> {
     let mut faults: Vec<String> = Vec::new();
     faults.extend(other_gains.map(|(name, ..)| format!("{name} has other gains than on paper")));
     faults.extend(other_refusals.map(|(altered, ..)| format!("A altered by {altered:?} is not refused as on paper")));
+    faults
+}
+
+/// docs/orders/04.md works these out: NEW-B-1, the value of each complete path, as they stand in a dictionary, in half
+/// ticks, and in half ticks too what document 003's recursion (10) would give instead.
+fn second_on_paper() -> Vec<String> {
+    let graph = |lists: &Lists| read(&file_of_records(&records_of(lists))).unwrap();
+    let (a, tick, half) = (case_a(), PARTS_IN_A_TICK, PARTS_IN_A_TICK / 2);
+    let j = Lists { edges: vec![edge(0, 1), edge(1, 3), edge(2, 3)], ..a.clone() };
+    let [one, two, three] = EXAMPLES.map(|(bytes, ..)| read(bytes).unwrap());
+    let worked: [(&str, Graph, u64, &[u64], u64); 12] = [
+        ("A", graph(&a), 13_693_680, &[32, 26], 32),
+        ("B", graph(&Lists { cores: vec![4, 3], ..a.clone() }), 12_612_600, &[32, 26], 32),
+        ("C", graph(&Lists { cores: vec![16, 3], ..a.clone() }), 11_801_790, &[32, 26], 32),
+        ("D", graph(&case_d()), 17 * tick, &[34, 34], 34),
+        ("F", graph(&case_f()), 0, &[0], 0),
+        ("J", graph(&j), 19 * tick, &[38, 22], 32),
+        ("parallel to two", graph(&parallel_to_two()), 10_570_560, &[26, 25, 16], 26),
+        ("two sources", graph(&two_sources()), 10 * tick, &[20, 20], 14),
+        ("two without an edge", graph(&two_without_an_edge()), 9 * half, &[9, 9], 6),
+        ("example 1", one, 930 * tick, &[1_760, 1_200], 1_760),
+        ("example 2", two, 468 * tick, &[936, 651], 936),
+        ("example 3", three, 320 * tick, &[640], 640),
+    ];
+    let differs = worked.iter().filter(|(_, graph, new, by_path, recursion)| {
+        let by_path: Vec<u64> = by_path.iter().map(|halves| halves * half).collect();
+        bounds(graph).new != *new
+            || !values(graph, &Ways::of(graph)).eq(by_path.iter().copied())
+            || second(graph).ok() != by_path.iter().max().copied()
+            || by_recursion(graph) != recursion * half
+    });
+    let mut faults: Vec<String> =
+        differs.map(|(name, ..)| format!("{name} has another NEW-B-2 than on paper")).collect();
+    // the run that the recursion would call impossible
+    if run(&graph(&two_sources()), &[3, 5, 2], 3) != Ok(vec![3, 8, 10]) {
+        faults.push("the two sources don't finish as on paper".to_string());
+    }
+    faults
+}
+
+/// Document 003's recursion (10), which leaves out what is parallel to the first vertex of a path: right for one source.
+fn by_recursion(graph: &Graph) -> u64 {
+    let paths = complete_paths(graph);
+    let related = |u: u8, v: u8| paths.iter().any(|p| p.contains(&u) && p.contains(&v));
+    let parallel = |v: u8| {
+        let of_kind = (0..graph.vertices() as u8).filter(move |&u| graph.kinds[u as usize] == graph.kinds[v as usize]);
+        of_kind.filter(|&u| !related(u, v)).collect::<Vec<u8>>()
+    };
+    let along = |path: &Vec<u8>| {
+        let mut parts = 0;
+        for (i, &v) in path.iter().enumerate() {
+            let kind = graph.kinds[v as usize];
+            let last = path[..i].iter().rev().find(|&&u| graph.kinds[u as usize] == kind);
+            let counted = last.map_or(vec![], |&u| parallel(u));
+            let fresh = parallel(v).into_iter().filter(|u| i > 0 && !counted.contains(u));
+            let beside: u64 = fresh.map(|u| graph.wcets[u as usize] as u64).sum();
+            parts += graph.wcets[v as usize] as u64 * PARTS_IN_A_TICK
+                + beside * (PARTS_IN_A_TICK / graph.cores_of(v as usize));
+        }
+        parts
+    };
+    paths.iter().map(along).max().unwrap()
+}
+
+/// The catalogue's graphs have the numbers of complete paths that they are there for, each counted from the sources on too,
+/// and those with more than 4,096 are refused.
+fn paths_counted() -> Vec<String> {
+    let graphs = numbers_of_paths();
+    let from_sources = |graph: &Graph| {
+        let (before, after) = (graph.predecessors(), graph.successors());
+        let mut ending = vec![0u128; graph.vertices()];
+        for v in topological(graph) {
+            ending[v] = before[v].iter().map(|&u| ending[u]).sum::<u128>().max(1);
+        }
+        (0..graph.vertices()).filter(|&v| after[v].is_empty()).map(|v| ending[v]).sum::<u128>()
+    };
+    let counts: Vec<u128> = graphs.iter().map(|graph| Ways::of(graph).complete_paths()).collect();
+    let mut faults = Vec::new();
+    for (graph, &count) in graphs.iter().zip(&counts) {
+        let refused = second(graph) == too_many_paths();
+        if from_sources(graph) != count || refused != (count > MOST_PATHS) {
+            faults.push(format!("{count} complete paths are miscounted in {graph:?}"));
+        }
+    }
+    let wraps = 1 << 64;
+    let wanted = [4_095, 4_096, 4_097, 1 << 16, 1 << 32, wraps, wraps + 1, wraps + 2, wraps + 4_096];
+    let missing = wanted.iter().filter(|count| !counts.contains(count));
+    faults.extend(missing.map(|count| format!("no graph of the catalogue has {count} complete paths")));
+    if *counts.iter().max().unwrap() < 10u128.pow(30) {
+        faults.push("no graph of the catalogue has 10^30 complete paths".to_string());
+    }
     faults
 }

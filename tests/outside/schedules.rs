@@ -1,5 +1,6 @@
 //! Demand 3 by experiment: work-conserving schedules that are no list schedules, with times from 0 to the WCETs. Each
-//! must finish by NEW-B-1, and NEW-B-1 must not exceed OLD-B.
+//! must finish by NEW-B-1, and NEW-B-1 must not exceed OLD-B; the same for NEW-B-2 and NEW-B-1, where there are few enough
+//! complete paths.
 
 use crate::generate::graphs::of;
 use crate::generate::random::Random;
@@ -11,6 +12,7 @@ use crate::reference::bounds::{bounds, Bounds};
 use crate::reference::graph::{Graph, MOST_VERTICES, PARTS_IN_A_TICK};
 use crate::reference::order::topological;
 use crate::reference::record::{finished, ready};
+use crate::reference::second::second;
 use crate::reference::writer::file_of;
 
 /// How the cores are given to the ready vertices, anew in each tick.
@@ -28,22 +30,31 @@ enum Choice {
 
 pub fn schedules(options: &Options) -> bool {
     let seed = options.seed;
-    let pieces = (0..options.count).map(move |place| request::bounds(&file_of(&experiment(seed, place).0)).bytes());
+    let pieces = (0..options.count).map(move |place| {
+        let file = file_of(&experiment(seed, place).0);
+        [request::bounds(&file).bytes(), request::second(&file).bytes()].concat()
+    });
     let mut probe = (!options.command.is_empty()).then(|| Probe::start(&options.command, pieces));
-    let (mut beyond, mut nearest, mut at_the_tick) = (0, 0.0f64, 0);
+    let (mut beyond, mut nearest, mut at_the_tick, mut below, mut at_the_second) = (0, 0.0f64, 0, 0, 0);
     for place in 0..options.count {
         let (graph, mut random) = experiment(seed, place);
         let times = times(&mut random, &graph);
         let finish = finish_of(&mut random, &graph, &times);
-        let bounds = match &mut probe {
-            None => bounds(&graph),
-            Some(probe) => probed(probe.line()),
+        let (bounds, second) = match &mut probe {
+            None => (bounds(&graph), second(&graph).ok()),
+            Some(probe) => (probed(probe.line()), probed_second(probe.line())),
         };
         let parts = finish * PARTS_IN_A_TICK;
-        if parts > bounds.new || bounds.new > bounds.old || finish > bounds.ticks {
-            eprintln!("schedule {place} finishes at {finish} against {bounds:?}: {graph:?}, times {times:?}");
+        // without NEW-B-2, NEW-B-1 stands in its place
+        let least = second.unwrap_or(bounds.new);
+        if parts > least || least > bounds.new || bounds.new > bounds.old || finish > bounds.ticks {
+            eprintln!(
+                "schedule {place} finishes at {finish} against {bounds:?} and {second:?}: {graph:?}, times {times:?}"
+            );
             beyond += 1;
         }
+        below += (least < bounds.new) as u64;
+        at_the_second += (least < bounds.new && finish == least / PARTS_IN_A_TICK) as u64;
         if bounds.new > 0 {
             nearest = nearest.max(parts as f64 / bounds.new as f64);
         }
@@ -54,6 +65,7 @@ pub fn schedules(options: &Options) -> bool {
         options.count,
         nearest * 100.0
     );
+    println!("NEW-B-2 is below NEW-B-1 in {below} of them; {at_the_second} of these finish in its last whole tick");
     beyond == 0 && probe.map(ended_well).unwrap_or(true)
 }
 
@@ -86,6 +98,16 @@ fn probed(line: Option<String>) -> Bounds {
             Bounds { old: old.parse().unwrap_or(0), new: new.parse().unwrap_or(1), ticks: ticks.parse().unwrap_or(0) }
         }
         _ => Bounds { old: 0, new: 1, ticks: 0 },
+    }
+}
+
+/// `second X`; none where there are too many paths; or what nothing keeps.
+fn probed_second(line: Option<String>) -> Option<u64> {
+    let line = line.unwrap_or_default();
+    match line.split(' ').collect::<Vec<_>>()[..] {
+        ["second", parts] => Some(parts.parse().unwrap_or(u64::MAX)),
+        ["refused", "17", "at", "0", "second", "0"] => None,
+        _ => Some(u64::MAX),
     }
 }
 

@@ -1,8 +1,8 @@
 //! The planner once more, in plain Rust, written from the documents alone.
 //!
 //! It is the witness that the proved planner is compared with, so it takes other ways wherever there are any: a
-//! search in depth for the cycle, sums in topological order, whole paths compared as lists, a run as a queue of
-//! finishes. Read in this order:
+//! search in depth for the cycle, sums in topological order, whole paths compared as lists, complete paths by their
+//! numbers, a run as a queue of finishes. Read in this order:
 //!
 //!   refusal   a number and a place
 //!   graph     an accepted graph
@@ -10,6 +10,7 @@
 //!   reader    numbers 1 to 3, then judge; writer   number 13, then judge, then 15
 //!   order     cycle and topological order
 //!   bounds    OLD-B, NEW-B-1 and the least path
+//!   second    NEW-B-2, and the number of complete paths (17)
 //!   gains     what a rewrite of each vertex would gain, and their ranking
 //!   record    the run record, and which of them suit a graph (16)
 //!   schedule  start, tick, whole run
@@ -24,5 +25,6 @@ pub mod reader;
 pub mod record;
 pub mod refusal;
 pub mod schedule;
+pub mod second;
 pub mod sheet;
 pub mod writer;

@@ -24,7 +24,8 @@ fn lines(t: &[u8], names: Names, g: Graph, path: &[u8]) -> bool
 {
     let gain = gains::table(g);
     let list = ranks::ranking(&gain, g.n);
-    let sheet = say::sheet::lines(bounds::figures(g), g, path, front(&list, g.n));
+    let found = second::of_graph(g);
+    let sheet = say::sheet::lines(bounds::figures(g), found, g, path, front(&list, g.n));
     if names.stages == 0 {
         return sheet;
     }

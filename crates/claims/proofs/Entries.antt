@@ -12,6 +12,8 @@ use Rattle.writer.specs.declared.Wrote.{Wrote}
 use Rattle.bounds.specs.Answers.{BoundsOf, PathOf}
 use Rattle.bounds.specs.declared.Bounded.{Bounded}
 use Rattle.bounds.specs.declared.Pathed.{Pathed}
+use Rattle.second.specs.Answers.{SecondOf}
+use Rattle.second.specs.declared.Seconded.{Seconded}
 use Rattle.gains.specs.Answers.{GainsOf, AlteredOf}
 use Rattle.gains.specs.declared.Gained.{Gained}
 use Rattle.tick.specs.declared.Run.{Run}
@@ -22,16 +24,17 @@ use Rattle.schedule.specs.Tick.{tickOf}
 use Rattle.schedule.specs.Whole.{playOf, finishesOf}
 use Rattle.schedule.specs.declared.Started.{Started}
 use Rattle.schedule.specs.declared.Played.{Played}
-use Rattle.codes.specs.Coded.{codedGraph, codedWrote, BoundsCoded, PathCoded, GainsCoded, AlteredCoded}
+use Rattle.codes.specs.Coded.{codedGraph, codedWrote, BoundsCoded, SecondCoded, PathCoded, GainsCoded, AlteredCoded}
 use Rattle.codes.specs.CodedRun.{codedStart, codedReport, codedTick, codedPlay}
 use Rattle.codes.specs.declared.PlannerGraph.{PlannerGraph}
 use Rattle.codes.specs.declared.PlannerCount.{PlannerCount}
 use Rattle.codes.specs.declared.PlannerBounds.{PlannerBounds}
+use Rattle.codes.specs.declared.PlannerSecond.{PlannerSecond}
 use Rattle.codes.specs.declared.PlannerRun.{PlannerRun}
 use Rattle.codes.specs.declared.PlannerMoved.{PlannerMoved}
 use Rattle.codes.specs.declared.PlannerTick.{PlannerTick}
 use Rattle.codes.specs.declared.PlannerFinish.{PlannerFinish}
-use Rattle.claims.specs.Entries.{ReadGives, WriteGives, BoundsGives, PathGives, GainsGives, AlteredGives, StartGives, TickGives, TickInPlaceGives, RunGives, PlannerReadGives, PlannerWriteGives, PlannerBoundsGives, PlannerPathGives, PlannerGainsGives, PlannerAlteredGives, PlannerStartGives, PlannerTickGives, PlannerTickInPlaceGives, PlannerRunGives}
+use Rattle.claims.specs.Entries.{ReadGives, WriteGives, BoundsGives, SecondGives, PathGives, GainsGives, AlteredGives, StartGives, TickGives, TickInPlaceGives, RunGives, PlannerReadGives, PlannerWriteGives, PlannerBoundsGives, PlannerSecondGives, PlannerPathGives, PlannerGainsGives, PlannerAlteredGives, PlannerStartGives, PlannerTickGives, PlannerTickInPlaceGives, PlannerRunGives}
 
 pub read-given : {s : List ℕ} {t : Taken} → ReadGives s t → t ≡ readOf s
 read-given h = sym (h .as-seen .1) ∙ h .ensured ∙ ap readOf (h .as-seen .0)
@@ -45,6 +48,9 @@ write-given h =
 
 pub bounds-given : {s : List ℕ} {b : Bounded} → BoundsGives s b → BoundsOf s b
 bounds-given h = rw (← h .as-seen .0, ← h .as-seen .1) (h .ensured)
+
+pub second-given : {s : List ℕ} {r : Seconded} → SecondGives s r → SecondOf s r
+second-given h = rw (← h .as-seen .0, ← h .as-seen .1) (h .ensured)
 
 pub path-given : {s old new : List ℕ} {p : Pathed} → PathGives s old p new → PathOf s old p new
 path-given h = let i = h .as-seen in rw (← i .0, ← i .1, ← i .2, ← i .3) (h .ensured)
@@ -84,6 +90,9 @@ planner-write-given h =
 
 pub planner-bounds-given : {s : List ℕ} {b : PlannerBounds} → PlannerBoundsGives s b → BoundsCoded s b
 planner-bounds-given h = rw (← h .as-seen .0, ← h .as-seen .1) (h .ensured)
+
+pub planner-second-given : {s : List ℕ} {r : PlannerSecond} → PlannerSecondGives s r → SecondCoded s r
+planner-second-given h = rw (← h .as-seen .0, ← h .as-seen .1) (h .ensured)
 
 pub planner-path-given : {s old new : List ℕ} {p : PlannerCount} → PlannerPathGives s old p new → PathCoded s old p new
 planner-path-given h = let i = h .as-seen in rw (← i .0, ← i .1, ← i .2, ← i .3) (h .ensured)

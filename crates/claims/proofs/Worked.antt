@@ -7,13 +7,17 @@ use native.Mathlib.Omega.{arith}
 use lib.Dec.{ltb}
 use lib.ListN.{length, getD}
 use borrow.Author.Tests.{ltb-true}
-use Rattle.model.specs.Places.{first, count, any, every, table, padded, sum, largest}
-use Rattle.model.specs.Graph.{Graph, WellFormed, source}
-use Rattle.model.specs.Cycle.{Acyclic, walks, cyclic}
+use Rattle.model.specs.Places.{first, count, any, every, table, padded, sum, largest, along}
+use Rattle.model.specs.Graph.{Graph, WellFormed, source, sink}
+use Rattle.model.specs.Cycle.{Acyclic, walks, cyclic, reach, ancestor}
 use Rattle.model.specs.Bounds.{PARTS, vol, volume, used, mostCores, scaled}
 use Rattle.model.specs.ListSchedule.{finishedWithin, finished, ready, goesOn, waits, chosen, leap, steps}
+use Rattle.model.specs.Second.{parallel, parallelTo, volParallel, second}
+use Rattle.model.specs.PathCount.{waysWithin, ways, pathCount}
+use Rattle.model.specs.Visit.{amid, pathWithin, pathAt}
 use Rattle.model.specs.Ranking.{comes}
 use Rattle.model.proofs.Bools.{left-of, right-of}
+use Rattle.model.proofs.Visit.{secondOf, second-computed}
 use Rattle.model.proofs.Rankings.{manyBefore, rankingOf, ranking-computed}
 use Rattle.graph.specs.File.{wordAt, keyAt, order, isOrder, many, ordinal, column, words, keys, graphOf}
 use Rattle.graph.specs.Model.{from, to, joins, asModel}
@@ -52,6 +56,10 @@ computed s b a o n t p =
       has-path = rw p at (path-computed (A .well-formed) (A .acyclic));
     }
 
+seconded : (s : List ℕ) {parts : ℕ} → bytes s ≡ true → IsAccepted s → secondOf (graphIn s) ≡ parts → worked.HasSecond s parts
+seconded s b a e =
+    let A = taken s (byte-at s b) a in record { is-accepted = a; has-second = rw e at (second-computed (A .well-formed) (A .acyclic)) }
+
 -- what `gainOf` computes for the vertices from v on
 abbrev Computes : Graph → ℕ → List ℕ → Type 0
 Computes G v [] = Unit {0}
@@ -74,7 +82,7 @@ gained s {gain} b a m c r =
 
 -- THEOREM. Cases A to L, and those of the orders.
 pub cases : worked.All worked.Right worked.rows
-unfolding first count any every table padded sum largest source walks cyclic vol volume used mostCores scaled finishedWithin finished ready goesOn waits chosen leap steps wordAt keyAt order isOrder many ordinal column words keys graphOf from to joins asModel rule1 rule2 rule3 rule4 rule5 rule6 rule7 rule8 rule9 rule10 rule11 holds places placeOf applies lowest judgeFrom readOf aheadWithin aheadOf greatestOf headOf nextOf stepsOf leastOf oldOf newOf pathOf tooLong judgeTimes startedOn startOf doneAt finishAt finishOf playIn playOn playOf finishesOf gainOf comes manyBefore rankingOf
+unfolding first count any every table padded sum largest source walks cyclic vol volume used mostCores scaled finishedWithin finished ready goesOn waits chosen leap steps wordAt keyAt order isOrder many ordinal column words keys graphOf from to joins asModel rule1 rule2 rule3 rule4 rule5 rule6 rule7 rule8 rule9 rule10 rule11 holds places placeOf applies lowest judgeFrom readOf aheadWithin aheadOf greatestOf headOf nextOf stepsOf leastOf oldOf newOf pathOf tooLong judgeTimes startedOn startOf doneAt finishAt finishOf playIn playOn playOf finishesOf sink along reach ancestor parallel parallelTo volParallel second waysWithin ways pathCount amid pathWithin pathAt secondOf gainOf comes manyBefore rankingOf
 cases = (
   computed worked.fileA refl refl refl refl refl refl,
   (
@@ -99,7 +107,7 @@ cases = (
                       gained worked.twoEqual refl refl refl (refl, (refl, (refl, (refl, tt)))) refl,
                       (
                         gained worked.chain refl refl refl (refl, (refl, (refl, tt))) refl,
-                        (refl, (refl, (refl, (computed _ refl refl refl refl refl refl, (refl, (refl, (computed _ refl refl refl refl refl refl, (computed _ refl refl refl refl refl refl, tt)))))))),
+                        (refl, (refl, (refl, (computed _ refl refl refl refl refl refl, (refl, (refl, (computed _ refl refl refl refl refl refl, (computed _ refl refl refl refl refl refl, (seconded worked.fileA refl refl refl, (seconded _ refl refl refl, tt)))))))))),
                       ),
                     ),
                   ),

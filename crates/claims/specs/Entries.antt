@@ -4,6 +4,7 @@
 --   ReadGives s t                    `read`: the value for the file s
 --   WriteGives g old w new           `write`: the answer for the lists g, and the lent room from old to new
 --   BoundsGives s b                  `bounds`: the answer for the file s
+--   SecondGives s r                  `second`: the answer for the file s
 --   PathGives s old p new            `path`: the answer for the file s, and the lent list from old to new
 --   GainsGives s old r new           `gains`: the answer for the file s, and the lent list from old to new
 --   AlteredGives s v x old r new     `gains_altered`: the same with the WCET of v set to x
@@ -37,6 +38,9 @@ use Rattle.bounds.proofs.bounds as bounds
 use Rattle.bounds.proofs.bounds.Reads as bounds-reads
 use Rattle.bounds.proofs.path as path
 use Rattle.bounds.proofs.path.Reads as path-reads
+use Rattle.second.specs.declared.Seconded.{Seconded}
+use Rattle.second.proofs.second as second
+use Rattle.second.proofs.second.Reads as second-reads
 use Rattle.gains.specs.declared.Gained.{Gained}
 use Rattle.gains.proofs.gains as gains
 use Rattle.gains.proofs.gains.Reads as gains-reads
@@ -65,6 +69,7 @@ use Rattle.schedule.proofs.Outcomes.{tick-in-place-stated}
 use Rattle.codes.specs.declared.PlannerGraph.{PlannerGraph}
 use Rattle.codes.specs.declared.PlannerCount.{PlannerCount}
 use Rattle.codes.specs.declared.PlannerBounds.{PlannerBounds}
+use Rattle.codes.specs.declared.PlannerSecond.{PlannerSecond}
 use Rattle.codes.specs.declared.PlannerRun.{PlannerRun}
 use Rattle.codes.specs.declared.PlannerMoved.{PlannerMoved}
 use Rattle.codes.specs.declared.PlannerTick.{PlannerTick}
@@ -75,6 +80,8 @@ use Rattle.planner.proofs.planner_write as planner-write
 use Rattle.planner.proofs.planner_write.Reads as planner-write-reads
 use Rattle.planner.proofs.planner_bounds as planner-bounds
 use Rattle.planner.proofs.planner_bounds.Reads as planner-bounds-reads
+use Rattle.planner.proofs.planner_second as planner-second
+use Rattle.planner.proofs.planner_second.Reads as planner-second-reads
 use Rattle.planner.proofs.planner_path as planner-path
 use Rattle.planner.proofs.planner_path.Reads as planner-path-reads
 use Rattle.planner.proofs.planner_gains as planner-gains
@@ -100,6 +107,9 @@ WriteGives g old w new =
 
 abbrev pub BoundsGives : List ℕ → Bounded → Type 0
 BoundsGives s b = Allows bounds.ended bounds-reads.Post (λ κs a r e. (now (a .0) ≡ s) × (r ≡ b))
+
+abbrev pub SecondGives : List ℕ → Seconded → Type 0
+SecondGives s b = Allows second.ended second-reads.Post (λ κs a r e. (now (a .0) ≡ s) × (r ≡ b))
 
 abbrev pub PathGives : List ℕ → List ℕ → Pathed → List ℕ → Type 0
 PathGives s old p new =
@@ -156,6 +166,9 @@ PlannerWriteGives g old w new =
 
 abbrev pub PlannerBoundsGives : List ℕ → PlannerBounds → Type 0
 PlannerBoundsGives s b = Allows planner-bounds.ended planner-bounds-reads.Post (λ κs a r e. (now (a .0) ≡ s) × (r ≡ b))
+
+abbrev pub PlannerSecondGives : List ℕ → PlannerSecond → Type 0
+PlannerSecondGives s b = Allows planner-second.ended planner-second-reads.Post (λ κs a r e. (now (a .0) ≡ s) × (r ≡ b))
 
 abbrev pub PlannerPathGives : List ℕ → List ℕ → PlannerCount → List ℕ → Type 0
 PlannerPathGives s old p new =

@@ -9,6 +9,7 @@ use Prim.Native.Nat.{ℕ, suc, _/_}
 use lib.ListN.{length, getD, replicate}
 use Rattle.model.specs.Graph.{Graph}
 use Rattle.model.specs.Bounds.{PARTS, OldB, NewB1, ThePath}
+use Rattle.model.specs.Second.{NewB2}
 use Rattle.model.specs.Gain.{GainOf}
 use Rattle.model.specs.Ranking.{Ranking}
 use Rattle.graph.specs.Judge.{readOf}
@@ -19,10 +20,11 @@ use Rattle.schedule.specs.Whole.{playOf, finishesOf}
 use Rattle.schedule.specs.declared.Played.the-variants.{Finish}
 use Rattle.claims.specs.Claims.{IsAccepted, graphIn}
 
--- the file's bounds in parts, NEW-B-1 in whole ticks, and its path; the gain of each vertex, and the vertices by gain; a whole run with these
+-- the file's bounds in parts, NEW-B-1 in whole ticks, and its path; NEW-B-2 in parts; the gain of each vertex, and the vertices by gain; a whole run with these
 -- times: finish instants and finish; a refused file; a refused start
 pub data Row : Type 0 where
   bounds : (file : List ℕ) (old new ticks : ℕ) (path : List ℕ) → Row
+  second : (file : List ℕ) (parts : ℕ) → Row
   gains : (file gain ranking : List ℕ) → Row
   run : (file times finishes : List ℕ) (finish : ℕ) → Row
   no-file : (file : List ℕ) (number place : ℕ) → Row
@@ -34,6 +36,10 @@ pub record HasBounds (file : List ℕ) (old new ticks : ℕ) (path : List ℕ) :
   pub has-new : NewB1 (graphIn file) new
   pub has-ticks : new / PARTS ≡ ticks
   pub has-path : ThePath (graphIn file) path
+
+pub record HasSecond (file : List ℕ) (parts : ℕ) : Type 0 where
+  pub is-accepted : IsAccepted file
+  pub has-second : NewB2 (graphIn file) parts
 
 -- the gains of the vertices from v on
 abbrev pub EachGain : Graph → ℕ → List ℕ → Type 0
@@ -55,6 +61,7 @@ refusedWith number place = Refused (record { number = number; place = place })
 
 abbrev pub Right : Row → Type 0
 Right (bounds file old new ticks path) = HasBounds file old new ticks path
+Right (second file parts) = HasSecond file parts
 Right (gains file gain ranking) = HasGains file gain ranking
 Right (run file times finishes finish) = HasRun file times finishes finish
 Right (no-file file number place) = readOf file .answer ≡ refusedWith number place
@@ -139,4 +146,7 @@ rows =
     -- order 2: A with a third kind of 16 cores that no vertex has; and that a vertex of WCET 0 has, between 0 and 3
     ∷ bounds (withVision edgesA) 14174160 13693680 19 (0 ∷ 1 ∷ 3 ∷ [])
     ∷ bounds (withVision (vertex 4 2 0 ++ edge 0 1 ++ edge 0 2 ++ edge 0 4 ++ edge 1 3 ++ edge 2 3 ++ edge 4 3)) 17297280 13693680 19 (0 ∷ 1 ∷ 3 ∷ [])
+    -- order 4: A, 16 ticks, below its NEW-B-1; J, which has two sources: vertex 2 is parallel to the first vertex of the path 0 1 3, and counts
+    ∷ second fileA 11531520
+    ∷ second (withEdges 2 (edge 0 1 ++ edge 1 3 ++ edge 2 3)) 13693680
     ∷ []

@@ -2,6 +2,7 @@
 --
 --   codedGraph, codedWrote, ..        each entry's answer, by its number, place and value (`Said`)
 --   BoundsCoded s r                   r is the coded answer of `bounds` for the file s
+--   SecondCoded s r                   so too for `second`
 --   PathCoded s old r new             r is the coded answer of `path` for the file s, and the lent list goes from old to new
 --   GainsCoded s old r new            so too for `gains`
 --   AlteredCoded s v x old r new      so too for `gains_altered`, with the WCET of v set to x
@@ -15,11 +16,14 @@ use Rattle.writer.specs.Write.{ofWrote}
 use Rattle.bounds.specs.Answers.{BoundsOf, PathOf, ofPathed}
 use Rattle.bounds.specs.declared.Bounded.{Bounded}
 use Rattle.bounds.specs.declared.Pathed.{Pathed}
+use Rattle.second.specs.Answers.{SecondOf}
+use Rattle.second.specs.declared.Seconded.{Seconded}
 use Rattle.gains.specs.Answers.{GainsOf, AlteredOf, ofGained}
 use Rattle.gains.specs.declared.Gained.{Gained}
 use Rattle.codes.specs.declared.PlannerGraph.{PlannerGraph}
 use Rattle.codes.specs.declared.PlannerCount.{PlannerCount}
 use Rattle.codes.specs.declared.PlannerBounds.{PlannerBounds}
+use Rattle.codes.specs.declared.PlannerSecond.{PlannerSecond}
 
 abbrev pub codedGraph : Taken → PlannerGraph
 codedGraph t = record { number = ofAnswer (t .answer) .number; place = ofAnswer (t .answer) .place; graph = t .graph }
@@ -46,6 +50,14 @@ pub record BoundsCoded (s : List ℕ) (r : PlannerBounds) : Type 0 where
   pub bounded : Bounded
   pub of : BoundsOf s bounded
   pub coded : r ≡ codedBounds bounded
+
+abbrev pub codedSecond : Seconded → PlannerSecond
+codedSecond r = record { number = ofAnswer (r .answer) .number; place = ofAnswer (r .answer) .place; parts = r .parts .0 }
+
+pub record SecondCoded (s : List ℕ) (r : PlannerSecond) : Type 0 where
+  pub seconded : Seconded
+  pub of : SecondOf s seconded
+  pub coded : r ≡ codedSecond seconded
 
 pub record PathCoded (s old : List ℕ) (r : PlannerCount) (new : List ℕ) : Type 0 where
   pub found : Pathed

@@ -2,7 +2,7 @@
 // refusal.
 ghost use mathlib.Core.Path.{_≡_};
 ghost use Rattle.graph.specs.Said.{ofAnswer};
-ghost use Rattle.codes.specs.Coded.{codedGraph, codedWrote, codedPath, codedGains, codedBounds};
+ghost use Rattle.codes.specs.Coded.{codedGraph, codedWrote, codedPath, codedGains, codedBounds, codedSecond};
 ghost use Rattle.codes.specs.CodedRun.{codedStart, codedReport, codedTick, codedPlay};
 use bounds::Bounded;
 use bounds::Pathed;
@@ -12,6 +12,7 @@ use graph::Graph;
 use graph::Taken;
 use schedule::Played;
 use schedule::Started;
+use second::Seconded;
 use tick::Report;
 use tick::Run;
 use tick::Ticked;
@@ -41,6 +42,14 @@ pub struct PlannerBounds {
     pub old: u64,
     pub new: u64,
     pub ticks: u64,
+}
+
+// NEW-B-2 in parts of a tick; 0 beside a refusal.
+#[repr(C)]
+pub struct PlannerSecond {
+    pub number: u32,
+    pub place: u32,
+    pub parts: u64,
 }
 
 // A run record at instant 0; zero and unmarked throughout beside a refusal.
@@ -133,6 +142,17 @@ pub fn coded_bounds(bounded: Bounded) -> PlannerBounds
         old: bounded.old.0,
         new: bounded.new.0,
         ticks: bounded.ticks.0,
+    }
+}
+
+pub fn coded_second(seconded: Seconded) -> PlannerSecond
+    ensures { λ r. ⌜ r ≡ codedSecond seconded ⌝ }
+{
+    let answer = seconded.answer;
+    PlannerSecond {
+        number: number(answer),
+        place: place(answer),
+        parts: seconded.parts.0,
     }
 }
 

@@ -6,11 +6,13 @@ use denote.Ref.{now}
 use Rattle.outcome.specs.OneOutcome.{OneOutcome}
 use Rattle.outcome.specs.Stated.{Stated}
 use Rattle.bounds.proofs.Unique.{bounds-unique, path-of-unique}
+use Rattle.second.proofs.Unique.{second-of-unique}
 use Rattle.gains.proofs.Unique.{gains-of-unique, altered-of-unique}
 use Rattle.schedule.specs.Tick.{tickOf}
-use Rattle.codes.specs.Coded.{codedBounds, codedPath, codedGains, BoundsCoded, PathCoded, GainsCoded, AlteredCoded}
+use Rattle.codes.specs.Coded.{codedBounds, codedSecond, codedPath, codedGains, BoundsCoded, SecondCoded, PathCoded, GainsCoded, AlteredCoded}
 use Rattle.codes.specs.CodedRun.{codedReport}
 use Rattle.codes.specs.declared.PlannerBounds.{PlannerBounds}
+use Rattle.codes.specs.declared.PlannerSecond.{PlannerSecond}
 use Rattle.codes.specs.declared.PlannerCount.{PlannerCount}
 use Rattle.planner.proofs.planner_read as read
 use Rattle.planner.proofs.planner_read.Reads as read-reads
@@ -18,6 +20,8 @@ use Rattle.planner.proofs.planner_write as write
 use Rattle.planner.proofs.planner_write.Reads as write-reads
 use Rattle.planner.proofs.planner_bounds as bounds
 use Rattle.planner.proofs.planner_bounds.Reads as bounds-reads
+use Rattle.planner.proofs.planner_second as second
+use Rattle.planner.proofs.planner_second.Reads as second-reads
 use Rattle.planner.proofs.planner_path as path
 use Rattle.planner.proofs.planner_path.Reads as path-reads
 use Rattle.planner.proofs.planner_gains as gains
@@ -51,6 +55,12 @@ path-coded-unique p q = let e = path-of-unique (p .of) (q .of) in (p .coded ∙ 
 
 pub planner-path-one : OneOutcome path.ended path-reads.Pre path-reads.Post
 planner-path-one κs a r r′ ws ws′ pre p q = let e = path-coded-unique p q in (e .0, λ i. (tt, (e .1 i, tt)))
+
+second-coded-unique : {s : List ℕ} {r r′ : PlannerSecond} → SecondCoded s r → SecondCoded s r′ → r ≡ r′
+second-coded-unique p q = p .coded ∙ ap codedSecond (second-of-unique (p .seconded) (q .seconded) (p .of) (q .of)) ∙ sym (q .coded)
+
+pub planner-second-one : OneOutcome second.ended second-reads.Pre second-reads.Post
+planner-second-one κs a r r′ ws ws′ pre p q = (second-coded-unique p q, refl)
 
 gains-coded-unique : {s old : List ℕ} {r r′ : PlannerCount} {new new′ : List ℕ} → GainsCoded s old r new → GainsCoded s old r′ new′
     → (r ≡ r′) × (new ≡ new′)

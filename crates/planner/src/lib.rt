@@ -8,7 +8,7 @@ ghost use Rattle.writer.specs.Write.{wroteOf, roomAfter};
 ghost use Rattle.schedule.specs.Start.{startOf};
 ghost use Rattle.schedule.specs.Tick.{tickOf};
 ghost use Rattle.schedule.specs.Whole.{playOf, finishesOf};
-ghost use Rattle.codes.specs.Coded.{codedGraph, codedWrote, BoundsCoded, PathCoded, GainsCoded, AlteredCoded};
+ghost use Rattle.codes.specs.Coded.{codedGraph, codedWrote, BoundsCoded, SecondCoded, PathCoded, GainsCoded, AlteredCoded};
 ghost use Rattle.codes.specs.CodedRun.{codedStart, codedReport, codedTick, codedPlay};
 ghost use Rattle.planner.specs.Stepped.{codedStep};
 use codes::PlannerBounds;
@@ -17,6 +17,7 @@ use codes::PlannerFinish;
 use codes::PlannerGraph;
 use codes::PlannerMoved;
 use codes::PlannerRun;
+use codes::PlannerSecond;
 use codes::PlannerTick;
 use codes::coded_bounds;
 use codes::coded_gains;
@@ -24,6 +25,7 @@ use codes::coded_graph;
 use codes::coded_path;
 use codes::coded_play;
 use codes::coded_report;
+use codes::coded_second;
 use codes::coded_start;
 use codes::coded_tick;
 use codes::coded_wrote;
@@ -54,6 +56,13 @@ pub extern "C" fn planner_bounds(file: &[u8]) -> PlannerBounds
     ensures { λ r. ⌜ BoundsCoded (now (file .entry)) r ⌝ }
 {
     coded_bounds(bounds::bounds(file))
+}
+
+#[no_mangle]
+pub extern "C" fn planner_second(file: &[u8]) -> PlannerSecond
+    ensures { λ r. ⌜ SecondCoded (now (file .entry)) r ⌝ }
+{
+    coded_second(second::second(file))
 }
 
 #[no_mangle]

@@ -35,6 +35,7 @@ fn answer(letter: u8, p: &[u8]) {
         b'R' => probe_files::read_request(p),
         b'W' => probe_files::write_request(p),
         b'B' => probe_bounds::bounds_request(p),
+        b'N' => probe_bounds::second_request(p),
         b'P' => probe_bounds::path_request(p),
         b'G' => probe_gains::gains_request(p),
         b'A' => probe_gains::altered_request(p),

@@ -1,7 +1,8 @@
-// The letters B and P of the probe: the bounds of a file; its path. Each takes a request's payload and prints the line that answers it.
+// The letters B, N and P of the probe: the bounds of a file; its second bound; its path. Each takes a request's payload and prints the line that answers it.
 use bounds::Bounded;
 use bounds::Pathed;
 use graph::Answer;
+use second::Seconded;
 use wire::PRESET;
 
 fn figures(b: Bounded) {
@@ -37,6 +38,23 @@ pub fn bounds_request(p: &[u8]) {
         return print::bad();
     }
     both(&p[start..end])
+}
+
+fn one(r: Seconded) {
+    let a = r.answer;
+    said(a);
+    print::given(b"second", r.parts.0);
+    print::text(b"\n");
+}
+
+pub fn second_request(p: &[u8]) {
+    let f = wire::list(p, 0);
+    let start = f.start;
+    let end = f.end;
+    if !f.good | (end != p.len()) {
+        return print::bad();
+    }
+    one(second::second(&p[start..end]))
 }
 
 fn found(path: Pathed) {

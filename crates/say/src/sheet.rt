@@ -3,7 +3,9 @@ use crate::names;
 use crate::out;
 use board::Names;
 use bounds::Bounded;
+use graph::Answer;
 use graph::Graph;
+use second::Seconded;
 
 fn figure(name: &[u8], n: u64) -> bool {
     out::text(name) & out::field(n) & out::end()
@@ -14,8 +16,18 @@ fn counts(g: Graph) -> bool {
     kinds & out::field(g.n as u64) & out::field(g.edges as u64) & out::end()
 }
 
-fn figures(b: Bounded) -> bool {
-    figure(b"old", b.old.0) & figure(b"new", b.new.0) & figure(b"ticks", b.ticks.0)
+// NEW-B-2, or that there is none.
+fn second_line(found: Seconded) -> bool {
+    let answer = found.answer;
+    match answer {
+        Answer::Accepted => figure(b"second", found.parts.0),
+        Answer::Refused(_) => out::text(b"second none\n"),
+    }
+}
+
+fn figures(b: Bounded, found: Seconded) -> bool {
+    let both = figure(b"old", b.old.0) & figure(b"new", b.new.0);
+    both & second_line(found) & figure(b"ticks", b.ticks.0)
 }
 
 fn wide(v: u8) -> u64 {
@@ -32,8 +44,8 @@ fn row(name: &[u8], list: &[u8]) -> bool {
 }
 
 // The sheet: the bounds of a graph, the graph, its path, and its vertices by gain.
-pub fn lines(b: Bounded, g: Graph, path: &[u8], ranking: &[u8]) -> bool {
-    counts(g) & figures(b) & row(b"path", path) & row(b"gains", ranking)
+pub fn lines(b: Bounded, found: Seconded, g: Graph, path: &[u8], ranking: &[u8]) -> bool {
+    counts(g) & figures(b, found) & row(b"path", path) & row(b"gains", ranking)
 }
 
 fn longer(most: usize, name: &[u8]) -> usize {

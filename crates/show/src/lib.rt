@@ -72,12 +72,25 @@ fn path(g: Graph)
     }
 }
 
+// NEW-B-2, or that there is none: a graph of more than 4,096 complete paths is no refused one.
+fn second_line(g: Graph)
+    requires { ⌜ AcceptedGraph g ⌝ }
+{
+    let found = second::of_graph(g);
+    let answer = found.answer;
+    match answer {
+        Answer::Accepted => line(b"second ", found.parts.0),
+        Answer::Refused(_) => word(b"second none\n"),
+    }
+}
+
 fn figures(g: Graph)
     requires { ⌜ AcceptedGraph g ⌝ }
 {
     let b = bounds::figures(g);
     line(b"old ", b.old.0);
     line(b"new ", b.new.0);
+    second_line(g);
     line(b"ticks ", b.ticks.0);
 }
 
@@ -92,7 +105,7 @@ fn by_gain(g: Graph)
     word(b"\n");
 }
 
-// Six lines for an accepted file, else one that says why it is refused. The file is read and judged once. What is printed is not in the contract, since no contract can
+// Seven lines for an accepted file, else one that says why it is refused. The file is read and judged once. What is printed is not in the contract, since no contract can
 // speak of what a call of the operating system wrote; the answer is.
 pub fn sheet(file: &[u8]) -> Answer
     ensures { λ r. ⌜ r ≡ readOf (now (file .entry)) .answer ⌝ }
