@@ -26,7 +26,7 @@ use weights::volume::volume;
 use weights::weights;
 
 // The largest sum along a complete path.
-fn largest(
+pub(crate) fn largest(
     edge: &[u16; 1024],
     start: &[u16; 129],
     order: &[u8; 128],

@@ -1,13 +1,19 @@
 // The bounds OLD-B and NEW-B-1, and the path that gives NEW-B-1. The two entries take the file's bytes.
 ghost use mathlib.Core.Path.{_≡_};
+ghost use Rattle.model.specs.Bounds.{NewB1};
 ghost use Rattle.graph.specs.Model.{AcceptedGraph, asModel};
 ghost use Rattle.graph.specs.declared.Answer.the-variants.{Accepted, Refused};
+ghost use Rattle.reader.specs.Laid.{graphIn, Usable};
 ghost use Rattle.bounds.specs.Answers.{Figures, Nothing, BoundsOf, PathOf, PathIn};
 use graph::Answer;
 use graph::Graph;
 use graph::Refusal;
+use reader::Header;
 use units::Parts;
 use units::Ticks;
+use weights::Measure;
+use weights::volume::volume;
+use weights::weights;
 
 mod accepted; // accepted.rt: the bounds and the path of an accepted graph
 
@@ -111,4 +117,24 @@ pub fn path_into(g: Graph, out: &mut [u8]) -> Pathed
     let order = reader::along(g, &mut starts);
     let h = reader::header_of(g);
     accepted::path_of(h, &g.cores, &g.kind, &g.wcet, &g.edge, &starts, &order, out)
+}
+
+// NEW-B-1 alone, over the lists as they are lent.
+pub fn new_of<'a>(
+    h: Header,
+    cores: &'a [u8; 10],
+    kind: &'a [u8; 128],
+    wcet: &'a [u32; 128],
+    edge: &'a [u16; 1024],
+    start: &'a [u16; 129],
+    order: &'a [u8; 128],
+) -> Parts
+    requires { ⌜ Usable h (now cores) (now kind) (now wcet) (now edge) (now start) (now order) ⌝ }
+    ensures { λ r. ⌜ NewB1 (asModel (graphIn h (now (cores .entry)) (now (kind .entry)) (now (wcet .entry)) (now (edge .entry)))) (r .0) ⌝ }
+{
+    let n = h.n;
+    let kinds = h.kinds;
+    let shares = volume(kind, wcet, cores, kinds, n);
+    let weight = weights(kind, wcet, cores, kinds, n, Measure::Scaled);
+    Parts(accepted::largest(edge, start, order, n, &weight)).plus(shares)
 }

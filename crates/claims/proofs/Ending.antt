@@ -8,7 +8,6 @@ use Rattle.model.specs.Placing.{Placing, counted, NoneIdle}
 use Rattle.model.proofs.Cores.{named-demand-3}
 use Rattle.model.proofs.Compare.{new-le-old}
 use Rattle.model.proofs.Demand3 as model
-use Rattle.model.proofs.Listed.{list-demand-3}
 use Rattle.graph.specs.Model.{asModel, AcceptedGraph}
 use Rattle.graph.specs.Judge.{readOf}
 use Rattle.graph.specs.declared.Answer.{Answer}
@@ -18,9 +17,9 @@ use Rattle.bounds.specs.Answers.{Figures, Beside, BoundsOf}
 use Rattle.bounds.specs.declared.Bounded.{Bounded}
 use Rattle.times.specs.Times.{timesOf, judgeTimes, Fitting}
 use Rattle.leaps.specs.Finishes.{finishOf}
-use Rattle.leaps.proofs.Finishes.{finish-of-all}
+use Rattle.leaps.proofs.Finishes as finishes
 use Rattle.times.proofs.Fits.{times-fit}
-use Rattle.claims.specs.Claims.{Bytes, IsAccepted, graphIn, schedule}
+use Rattle.claims.specs.Claims.{Bytes, IsAccepted, graphIn}
 
 module _ (s : List ℕ) (bytes : Bytes s) (ok : IsAccepted s) (r : Bounded) (b : BoundsOf s r) where
   accepted : AcceptedGraph (readOf s .graph)
@@ -40,10 +39,6 @@ module _ (s : List ℕ) (bytes : Bytes s) (ok : IsAccepted s) (r : Bounded) (b :
 
   -- the list schedule, with any times that a start accepts
   module _ (e : List ℕ) (fit : judgeTimes (readOf s .graph) e ≡ Accepted) where
-    pub run-ends-by-new : EndsBy (graphIn s) (schedule s e) (r .new .0)
-    unfolding asModel
-    run-ends-by-new =
-        list-demand-3 (accepted .well-formed) (accepted .acyclic) (timesOf e) (times-fit (readOf s .graph) e fit .short) (r .new .0) (figures .new)
-
     pub finish-below-new : finishOf (graphIn s) (timesOf e) * PARTS ≤ r .new .0
-    finish-below-new = run-ends-by-new .within (finishOf (graphIn s) (timesOf e)) (finish-of-all (accepted .well-formed) (accepted .acyclic) (timesOf e))
+    unfolding asModel
+    finish-below-new = finishes.finish-below-new (accepted .well-formed) (accepted .acyclic) (timesOf e) (times-fit (readOf s .graph) e fit .short) (r .new .0) (figures .new)

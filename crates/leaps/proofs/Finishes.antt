@@ -1,13 +1,16 @@
 -- What a whole run computes is what the words mean: the finish instants and the finish of the list schedule.
-use mathlib.Core.Path.{_≡_}
+use mathlib.Core.Path.{_≡_, sym, _∙_}
 use mathlib.Core.Logic.{_⊎_, inl, inr, ⊎-elim}
 use mathlib.Core.Bool.{Bool, true}
-use Prim.Native.Nat.{ℕ, zero, suc, _+_, _≤_, _<_}
+use Prim.Native.Nat.{ℕ, zero, suc, _+_, _*_, _≤_, _<_}
 use native.Mathlib.Omega.{arith}
+use lib.Dec.{leb}
+use borrow.Author.Tests.{le-leb, lt-leb}
 use Rattle.model.specs.Places.{first, every, sum}
 use Rattle.model.specs.Graph.{Graph, WellFormed}
 use Rattle.model.specs.Cycle.{Acyclic}
-use Rattle.model.specs.Schedule.{Schedule, left, Finished, FinishOf, AllFinished, Finish}
+use Rattle.model.specs.Bounds.{PARTS, NewB1}
+use Rattle.model.specs.Schedule.{Schedule, left, Times, Finished, FinishOf, AllFinished, Finish}
 use Rattle.model.specs.ListSchedule.{begin, steps, listSchedule}
 use Rattle.model.proofs.Bools.{clash, le-or-lt}
 use Rattle.model.proofs.Places.{every-at, every-intro}
@@ -15,7 +18,7 @@ use Rattle.model.proofs.Cycles.{ranked}
 use Rattle.model.proofs.Finished.{all-finished-or, fin-step}
 use Rattle.model.proofs.Tests.{finished-tells}
 use Rattle.model.proofs.Tick.{progress}
-use Rattle.model.proofs.Listed.{left-steps, list-works}
+use Rattle.model.proofs.Listed.{left-steps, list-works, list-demand-3}
 use Rattle.model.proofs.Places.{first-le, first-below, first-here}
 use Rattle.leaps.specs.Finishes.{doneAt, finishAt, finishOf}
 
@@ -83,3 +86,18 @@ module _ {G : Graph} (W : WellFormed G) (A : Acyclic G) (e : ℕ → ℕ) where
     where
       p : ℕ → Bool
       p t = every (doneAt G e t) (G .n)
+
+  -- up to the finish, all is finished exactly at the finish
+  pub all-done : (t : ℕ) → t ≤ finishOf G e → every (doneAt G e t) (G .n) ≡ leb (finishOf G e) t
+  unfolding finishOf
+  all-done t l =
+      ⊎-elim
+      (λ (h : finishOf G e ≤ t).
+      let q : t ≡ finishOf G e = omega arith in
+      rw q (every-intro (doneAt G e (finishOf G e)) (G .n) (λ v b. tells (finishOf G e) v b (finish-of-all .all v b))) ∙ sym (le-leb (finishOf G e) t h))
+      (λ (h : t < finishOf G e). first-below (λ t. every (doneAt G e t) (G .n)) (sum e (G .n)) t h ∙ sym (lt-leb (finishOf G e) t h))
+      (le-or-lt (finishOf G e) t)
+
+  -- THEOREM (demand 3). The finish is at or before NEW-B-1.
+  pub finish-below-new : Times G e → (B : ℕ) → NewB1 G B → finishOf G e * PARTS ≤ B
+  finish-below-new h B b = list-demand-3 W A e h B b .within (finishOf G e) finish-of-all

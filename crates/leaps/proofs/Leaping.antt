@@ -10,11 +10,12 @@ use Prim.Native.Nat.{ℕ, zero, suc, _+_, _-_, _≤_, _<_}
 use native.Mathlib.Nat.{zero-add, suc-add, add-comm}
 use native.Mathlib.Omega.{arith}
 use lib.ListN.{getD, length, replicate, length-replicate}
-use Rattle.model.specs.Places.{pick, first, any, every, count, sum}
+use borrow.Author.Tests.{le-leb}
+use Rattle.model.specs.Places.{pick, first, any, every, count, sum, padded}
 use Rattle.model.specs.Graph as model
 use Rattle.model.specs.ListSchedule.{State, finished, begin, chosen, leap, step, steps, Fair}
 use Rattle.model.proofs.Bools.{cases, clash, le-or-lt, not-is-true}
-use Rattle.model.proofs.Places.{first-at, first-none, every-at, every-intro, every-ext, any-intro, some-counted, none-counted, any-none}
+use Rattle.model.proofs.Places.{first-at, first-none, first-here, every-at, every-intro, every-ext, any-intro, any-false, count-none, some-counted, none-counted, any-none}
 use Rattle.model.proofs.Sums.{sum-most}
 use Rattle.model.proofs.Tables.{padded-none, padded-past}
 use Rattle.model.proofs.Finished.{fin-less}
@@ -33,11 +34,11 @@ use Rattle.remains.specs.Remains.{TOP}
 use Rattle.remains.proofs.Fewest.{least-none}
 use Rattle.leaps.proofs.ByNumbers.{settled-behind}
 use Rattle.leaps.specs.Finishes.{doneAt, finishAt, finishOf}
+use Rattle.leaps.proofs.Finishes.{all-done}
 use Rattle.tick.proofs.Moved.{moved-state, less-left, spend}
 use Rattle.model.proofs.Turns.{as-padded}
 use Rattle.leaps.proofs.OneLeap.{unfinished-is, unfinished-past, over-all, one-runs}
-use Rattle.leaps.specs.declared.Ended.{Ended}
-use Rattle.leaps.specs.Leaps.{Work, stamped, unfinished, Sound, Leapt, Fresh, Kept, endOf}
+use Rattle.leaps.specs.Leaps.{Work, stamped, unfinished, Sound, Leapt, Fresh, Kept}
 
 pub steps-add : (G : model.Graph) (s : State) (d t : ℕ) → steps G (d + t) s ≡ steps G d (steps G t s)
 unfolding steps
@@ -56,7 +57,7 @@ module _ (g : Graph) (A : AcceptedGraph g) where
   abbrev G : model.Graph
   G = asModel g
 
-  module _ (e : ℕ → ℕ) (w new : Work) (kept : Kept g e w) (some-busy : 0 < count (isIn (w .busy)) 128) (leapt : Leapt g w new) where
+  module _ (e : ℕ → ℕ) (room : ℕ) (w new : Work) (kept : Kept g e w) (some-busy : 0 < count (isIn (w .busy)) 128) (leapt : Leapt g room w new) where
     abbrev now : ℕ
     now = w .run .instant
 
@@ -74,7 +75,7 @@ module _ (g : Graph) (A : AcceptedGraph g) where
     unfolding stateOf
     long-enough = leapt .enough
 
-    later : new .run .instant ≡ now + leapt .d
+    pub later : new .run .instant ≡ now + leapt .d
     unfolding recordOf
     later = ap (λ (r : Run). r .instant) (leapt .moved)
 
@@ -212,7 +213,7 @@ module _ (g : Graph) (A : AcceptedGraph g) where
     unfolding steps
     state-start = as-begun ∙ sym (ap (λ (t : ℕ). steps G t (begin (leftOf r))) (fresh .at-start))
 
-    in-time-start : r .instant + sum (leftOf r) (g .n) ≤ MOST
+    pub in-time-start : r .instant + sum (leftOf r) (g .n) ≤ MOST
     in-time-start = omega (arith, fresh .at-start, A .few-vertices, sum-most (leftOf r) 1000000 (g .n) (λ v l. omega (arith, fresh .short v l, A .short v l)))
 
     module _ (w : Work) (is-run : w .run ≡ r) (is-least : w .least ≡ TOP) (is-busy : (v : ℕ) → isIn (w .busy) v ≡ someLeft (r .left) v)
@@ -260,27 +261,47 @@ module _ (g : Graph) (A : AcceptedGraph g) where
   unfolding doneAt stateOf
   doneAt-state e w k v = ap (λ (x : State). finished G (x .rest) v) (sym (k .state))
 
-  pub ran-whole : (e : ℕ → ℕ) (w : Work) → Kept g e w → count (isIn (w .busy)) 128 ≡ 0 → _≡_ {A = Ended} (record { instant = w .run .instant; finishes = w .finishes }) (endOf g e)
-  unfolding endOf finishOf finishAt asModel
-  ran-whole e w k z =
-      ap₂ {C = Ended} (λ (x : ℕ) (l : List ℕ). record { instant = x; finishes = l })
-      (sym (first-is (λ t. every (doneAt G e t) (g .n)) (sum e (g .n)) (w .run .instant) (omega (arith, k .spent)) (k .not-all)
-      (every-intro (doneAt G e (w .run .instant)) (g .n) (λ v l. done v l))))
-      (as-padded (finishAt G e) 128 (g .n) (w .finishes) (A .few-vertices) (k .sound .long-finishes) instants (k .blank))
+  -- not all is finished before, so that the finish is not before
+  pub not-sooner : (e : ℕ → ℕ) (w : Work) → Kept g e w → w .run .instant ≤ finishOf G e
+  unfolding finishOf asModel
+  not-sooner e w k =
+      ⊎-elim (λ l. l)
+      (λ (l : first p (sum e (g .n)) < w .run .instant). absurd (clash (first-here p (sum e (g .n)) (omega (arith, k .spent))) (k .not-all (first p (sum e (g .n))) l)))
+      (le-or-lt (w .run .instant) (first p (sum e (g .n))))
     where
-      none : any (isIn (w .busy)) 128 ≡ false
-      none = any-none (isIn (w .busy)) 128 (none-counted (isIn (w .busy)) 128 z)
+      p : ℕ → Bool
+      p t = every (doneAt G e t) (g .n)
 
-      is-done : (v : ℕ) → v < g .n → finished G (leftOf (w .run)) v ≡ true
-      is-done v l = every-at (finished G (leftOf (w .run))) (g .n) (over-all g A w (k .sound) ∙ ap not none) v l
+  -- where all is finished nobody is busy
+  pub none-busy : (e : ℕ → ℕ) (w : Work) → Kept g e w → w .run .instant ≡ finishOf G e → count (isIn (w .busy)) 128 ≡ 0
+  unfolding asModel
+  none-busy e w k q =
+      let done : every (finished G (leftOf (w .run))) (g .n) ≡ true = every-ext (finished G (leftOf (w .run))) (doneAt G e (w .run .instant)) (g .n) (λ v l. sym (doneAt-state e w k v))
+      ∙ all-done (A .well-formed) (A .acyclic) e (w .run .instant) (omega arith) ∙ le-leb (finishOf G e) (w .run .instant) (omega arith) in
+      let none = not-is-true (any (isIn (w .busy)) 128) (sym (over-all g A w (k .sound)) ∙ done) in
+      count-none (isIn (w .busy)) 128 (λ v h. any-false (isIn (w .busy)) 128 v h none)
 
-      over-now : (v : ℕ) → v < g .n → unfinished w v ≡ false
-      over-now v l = unfinished-is g A w (k .sound) v l ∙ ap not (is-done v l)
+  module _ (e : ℕ → ℕ) (w : Work) (k : Kept g e w) (z : count (isIn (w .busy)) 128 ≡ 0) where
+    none : any (isIn (w .busy)) 128 ≡ false
+    none = any-none (isIn (w .busy)) 128 (none-counted (isIn (w .busy)) 128 z)
 
-      done : (v : ℕ) → v < g .n → doneAt G e (w .run .instant) v ≡ true
-      done v l = doneAt-state e w k v ∙ is-done v l
+    is-done : (v : ℕ) → v < g .n → finished G (leftOf (w .run)) v ≡ true
+    is-done v l = every-at (finished G (leftOf (w .run))) (g .n) (over-all g A w (k .sound) ∙ ap not none) v l
 
-      instants : (v : ℕ) → v < g .n → getD (w .finishes) v 0 ≡ finishAt G e v
-      instants v l =
-          let f = k .ended v l (over-now v l) in
-          sym (first-is (λ t. doneAt G e t v) (sum e (g .n)) (getD (w .finishes) v 0) (omega (arith, f .0, k .spent)) (k .first v l (over-now v l)) (f .1))
+    over-now : (v : ℕ) → v < g .n → unfinished w v ≡ false
+    over-now v l = unfinished-is g A w (k .sound) v l ∙ ap not (is-done v l)
+
+    pub at-finish : w .run .instant ≡ finishOf G e
+    unfolding finishOf asModel
+    at-finish =
+        sym (first-is (λ t. every (doneAt G e t) (g .n)) (sum e (g .n)) (w .run .instant) (omega (arith, k .spent)) (k .not-all)
+        (every-intro (doneAt G e (w .run .instant)) (g .n) (λ v l. doneAt-state e w k v ∙ is-done v l)))
+
+    pub all-stamped : w .finishes ≡ padded 128 (finishAt G e) (g .n)
+    unfolding finishAt asModel
+    all-stamped = as-padded (finishAt G e) 128 (g .n) (w .finishes) (A .few-vertices) (k .sound .long-finishes) instants (k .blank)
+      where
+        instants : (v : ℕ) → v < g .n → getD (w .finishes) v 0 ≡ finishAt G e v
+        instants v l =
+            let f = k .ended v l (over-now v l) in
+            sym (first-is (λ t. doneAt G e t v) (sum e (g .n)) (getD (w .finishes) v 0) (omega (arith, f .0, k .spent)) (k .first v l (over-now v l)) (f .1))

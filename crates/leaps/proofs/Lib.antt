@@ -2,6 +2,8 @@
 pub mod OneByOne
 pub mod ByNumbers
 pub mod OneLeap
-pub mod Leaping
 pub mod Finishes
+pub mod Instants
+pub mod Leaping
+pub mod Stopping
 pub mod Outcomes

@@ -3,7 +3,7 @@ use mathlib.Core.Path.{_≡_, refl, sym, ap, ap₂, _∙_, subst, fun-ext}
 use mathlib.Core.Logic.{_⊎_, inl, inr, ⊎-elim}
 use mathlib.Core.List.{List}
 use mathlib.Core.Bool.{Bool, true, false, not, _&&_, _||_, or-false, and-true, and-false}
-use Prim.Native.Nat.{ℕ, _+_, _-_, _≤_, _<_, zero-le}
+use Prim.Native.Nat.{ℕ, _+_, _-_, _≤_, _<_, zero-le, min}
 use native.Mathlib.Omega.{arith}
 use lib.Dec.{eqb, ltb}
 use lib.ListN.{getD, length}
@@ -100,36 +100,37 @@ module _ (g : Graph) (A : AcceptedGraph g) where
     unfolding chosenBy
     still-on v t = is-on v ∙ or-left (able v && isIn (w .run .ran) v) _ (both (able v) (isIn (w .run .ran) v) (is-able v ∙ sound .goes-on v t) t)
 
-    module _ (begins : ℕ → Bool) (is-begins : (v : ℕ) → begins v ≡ on v && not (isIn (w .run .ran) v)) (d : ℕ) (first : LeastFrom (leftOf (w .run)) begins (w .least) d) where
+    module _ (begins : ℕ → Bool) (is-begins : (v : ℕ) → begins v ≡ on v && not (isIn (w .run .ran) v)) (fewest : ℕ) (first : LeastFrom (leftOf (w .run)) begins (w .least) fewest)
+        (room d : ℕ) (some-room : 0 < room) (is-d : d ≡ min fewest room) where
       -- the fewest of those that go on or begin: one of them has so many left, since somebody runs
-      least : LeastOf (leftOf (w .run)) on d
+      least : LeastOf (leftOf (w .run)) on fewest
       least = go (first .is) (sound .fewest .is)
         where
-          low : (v : ℕ) → on v ≡ true → (isIn (w .run .ran) v ≡ true) ⊎ (isIn (w .run .ran) v ≡ false) → d ≤ leftOf (w .run) v
+          low : (v : ℕ) → on v ≡ true → (isIn (w .run .ran) v ≡ true) ⊎ (isIn (w .run .ran) v ≡ false) → fewest ≤ leftOf (w .run) v
           low v t (inl r) = omega (arith, first .top, sound .fewest .low v r)
           low v t (inr r) = first .low v (is-begins v ∙ both (on v) (not (isIn (w .run .ran) v)) t (ap not r))
 
-          by : (u : ℕ) → on u ≡ true → leftOf (w .run) u ≡ d → LeastOf (leftOf (w .run)) on d
+          by : (u : ℕ) → on u ≡ true → leftOf (w .run) u ≡ fewest → LeastOf (leftOf (w .run)) on fewest
           by u t e = record { low = λ v h. low v h (cases (isIn (w .run .ran) v)); who = u; member = t; value = e }
 
-          somebody : d ≡ TOP → ⊥
+          somebody : fewest ≡ TOP → ⊥
           somebody e =
               let u = one-runs w sound some in
               let t = on-chosen (u .0) ∙ u .2 in
               omega (arith, low (u .0) t (cases (isIn (w .run .ran) (u .0))), sum-term (leftOf (w .run)) (u .0) (g .n) (u .1), sound .in-time)
 
-          go : (d ≡ w .least) ⊎ ((v : ℕ) × (begins v ≡ true) × (leftOf (w .run) v ≡ d))
-              → (w .least ≡ TOP) ⊎ ((v : ℕ) × (isIn (w .run .ran) v ≡ true) × (leftOf (w .run) v ≡ w .least)) → LeastOf (leftOf (w .run)) on d
+          go : (fewest ≡ w .least) ⊎ ((v : ℕ) × (begins v ≡ true) × (leftOf (w .run) v ≡ fewest))
+              → (w .least ≡ TOP) ⊎ ((v : ℕ) × (isIn (w .run .ran) v ≡ true) × (leftOf (w .run) v ≡ w .least)) → LeastOf (leftOf (w .run)) on fewest
           go (inl e) (inl z) = absurd (somebody (e ∙ z))
           go (inl e) (inr r) = by (r .0) (still-on (r .0) (r .1)) (r .2 ∙ sym e)
           go (inr r) x = by (r .0) (left-of (on (r .0)) (not (isIn (w .run .ran) (r .0))) (sym (is-begins (r .0)) ∙ r .1)) (r .2)
 
       pub within : (v : ℕ) → on v ≡ true → (v < w .run .n) × (d ≤ leftOf (w .run) v)
       within v t =
-          (rw (sound .agrees) (on-has v t .0), least .low v t)
+          (rw (sound .agrees) (on-has v t .0), omega (arith, least .low v t, is-d))
 
       pub at-most : w .run .instant + d ≤ MOST
-      at-most = omega (arith, least .value, sum-term (leftOf (w .run)) (least .who) (g .n) (on-has (least .who) (least .member) .0), sound .in-time)
+      at-most = omega (arith, is-d, least .value, sum-term (leftOf (w .run)) (least .who) (g .n) (on-has (least .who) (least .member) .0), sound .in-time)
 
       enough : (v : ℕ) → chosen G (stateOf (w .run)) v ≡ true → d ≤ leftOf (w .run) v
       enough v t = within v (on-chosen v ∙ t) .1
@@ -160,19 +161,26 @@ module _ (g : Graph) (A : AcceptedGraph g) where
                 let z : getD (w .run .left) v 0 ≡ getD left v 0 = omega (arith, rw c at (left-after v)) in
                 rw f (and-true (isIn (w .busy) v) ∙ sound .is-busy v ∙ ap (ltb 0) z)
 
-        -- the vertex with the fewest ticks left has none now
-        fewer : count (isIn busy) 128 < count (isIn (w .busy)) 128
+        -- where the room does not cut the leap short, the vertex with the fewest ticks left has none now
+        one-ends : d ≡ fewest → count (isIn busy) 128 < count (isIn (w .busy)) 128
         unfolding someLeft leftOf
-        fewer =
+        one-ends all =
             let h = on-has (least .who) (least .member) in
             let c : chosen G (stateOf (w .run)) (least .who) ≡ true = sym (on-chosen (least .who)) ∙ least .member in
-            let z : getD left (least .who) 0 ≡ 0 = omega (arith, rw c at (left-after (least .who)), least .value) in
+            let z : getD left (least .who) 0 ≡ 0 = omega (arith, rw c at (left-after (least .who)), least .value, all) in
             count-less (isIn busy) (isIn (w .busy)) (least .who) 128 (omega (arith, h .0, A .few-vertices))
             (λ v l t.
             let b = ltb-true 0 (getD left v 0) (sym (is-busy v) ∙ t) in
             sound .is-busy v ∙ lt-ltb 0 (getD (w .run .left) v 0) (omega (arith, left-after v)))
             (sound .is-busy (least .who) ∙ lt-ltb 0 (getD (w .run .left) (least .who) 0) (h .1))
             (is-busy (least .who) ∙ ap (ltb 0) z ∙ le-ltb 0 0 zero-le)
+
+        fewer : (count (isIn busy) 128 < count (isIn (w .busy)) 128) ⊎ (d ≡ room)
+        fewer =
+            ⊎-elim
+            (λ (l : fewest ≤ room). let all : d ≡ fewest = omega (arith, is-d) in inl (one-ends all))
+            (λ (l : room < fewest). let cut : d ≡ room = omega (arith, is-d) in inr cut)
+            (le-or-lt fewest room)
 
         still-fair : Fair G (stateOf next)
         still-fair = subst (Fair G) (sym (moved-state g A (w .run) (sound .agrees) (sound .past) d next moved)) (fair-leap G (stateOf (w .run)) (sound .fair) d)
@@ -233,19 +241,20 @@ module _ (g : Graph) (A : AcceptedGraph g) where
                   let x = behind-walk (isIn busy) v (sym (settled-behind g A wait (isIn busy) hind settled v) ∙ h) in
                   sound .is-behind v ∙ walk-behind (isIn (w .busy)) (A .well-formed) (A .acyclic) (x .0) v (on-has v runs .0) (left-of (isIn (w .busy) (x .0)) (not (isIn over (x .0))) (sym (busy-is (x .0)) ∙ x .1)) (x .2)
 
-          fewest : LeastFrom (leftOf next) (isIn ran) TOP few
+          fewest-after : LeastFrom (leftOf next) (isIn ran) TOP few
           unfolding leftOf
-          fewest = least-ext (place left) (leftOf next) (λ v. on v && not (eqb (getD left v 0) 0)) (isIn ran) TOP few (λ v. sym (is-ran .are v ∙ ap (λ (b : Bool). on v && not b) (is-over v) ∙ turn (on v) (eqb (getD left v 0) 0))) (λ v h. refl) is-few
+          fewest-after = least-ext (place left) (leftOf next) (λ v. on v && not (eqb (getD left v 0) 0)) (isIn ran) TOP few (λ v. sym (is-ran .are v ∙ ap (λ (b : Bool). on v && not b) (is-over v) ∙ turn (on v) (eqb (getD left v 0) 0))) (λ v h. refl) is-few
             where
               turn : (a b : Bool) → a && not (a && b) ≡ a && not b
               turn true b = refl
               turn false b = refl
 
-          pub leapt : Leapt g w (record { run = next; least = few; busy = busy; behind = hind; waiting = wait; finishes = fins })
+          pub leapt : Leapt g room w (record { run = next; least = few; busy = busy; behind = hind; waiting = wait; finishes = fins })
           unfolding unfinished recordOf stateOf
           leapt = record {
             d = d;
-            some = omega (arith, on-has (least .who) (least .member) .1, least .value);
+            some = omega (arith, on-has (least .who) (least .member) .1, least .value, is-d, some-room);
+            no-further = omega (arith, is-d);
             enough = enough;
             moved = moved;
             stamps = subst (λ (p : ℕ → Bool). Stamped (w .finishes) p (w .run .instant + d) fins) (fun-ext is-new) stamps;
@@ -256,7 +265,7 @@ module _ (g : Graph) (A : AcceptedGraph g) where
               fair = still-fair;
               in-time = omega (arith, fewer-ticks, sound .in-time);
               goes-on = goes-on;
-              fewest = fewest;
+              fewest = fewest-after;
               is-busy = is-busy;
               is-behind = settled-behind g A wait (isIn busy) hind settled;
               settled = settled;

@@ -1,14 +1,18 @@
-// A whole run, by leaps: between two finishes the same vertices run in every tick, so that all those ticks are taken at once. The
-// cost does not grow with the execution times: each leap ends the ticks of one vertex at least.
+// A run by leaps, whole or up to a tick: between two finishes the same vertices run in every tick, so that all those ticks are taken at
+// once. The cost does not grow with the execution times: each leap ends the ticks of one vertex at least, but for a last one that is cut
+// short. Inside, the graph's lists are lent one by one, since a graph by value is copied on its way; what is required and ensured there is
+// said of the graph that they are.
 ghost use mathlib.Core.Path.{_≡_};
 ghost use Prim.Native.Nat.{_<_};
 ghost use lib.ListN.{length, replicate};
 ghost use Rattle.model.specs.Places.{count, table};
+ghost use Rattle.graph.specs.declared.Graph.{Graph};
 ghost use Rattle.graph.specs.Model.{AcceptedGraph};
 ghost use Rattle.vset.specs.Members.{isIn};
+ghost use Rattle.remains.specs.Remains.{place};
 ghost use Rattle.tick.specs.Run.{leftOf};
 ghost use Rattle.starts.specs.Starts.{firstEdge};
-ghost use Rattle.leaps.specs.Leaps.{Stamped, workOf, ListsOf, Sound, Leapt, Fresh, Kept, endOf};
+ghost use Rattle.leaps.specs.Leaps.{Stamped, workOf, EdgesOf, ListsOf, GraphOf, Timed, Sound, Leapt, Fresh, Kept, untilOf, Stopped, endOf};
 use graph::Graph;
 use tick::Run;
 use vset::Vset;
@@ -51,11 +55,12 @@ fn stamp(finishes: &mut [u32; 128], new: Vset, instant: u32)
     }
 }
 
-// As many ticks at once as the vertex that runs with the fewest left has: of those that go on, that number is known from the leap
-// before, so that only those that begin are looked at. Those that have none left then are finished.
+// As many ticks at once as the vertex that runs with the fewest left has, or as there is room for: of those that go on, that number is
+// known from the leap before, so that only those that begin are looked at. Those that have none left then are finished; where the room cuts
+// the leap short there are none.
 fn leap(
     m: Moment,
-    g: Graph,
+    kinds: usize,
     cores: &[u8; 10],
     words: &[u64; 20],
     edge: &[u16; 1024],
@@ -63,18 +68,19 @@ fn leap(
     left: &mut [u32; 128],
     waiting: &mut [u8; 128],
     finishes: &mut [u32; 128],
+    room: u32,
 ) -> Moment
-    requires { ⌜ AcceptedGraph g ⌝ }
-    requires { ⌜ ListsOf g (now cores) (now words) (now edge) (now starts) ⌝ }
-    requires { ⌜ Sound g (workOf g m (now left) (now waiting) (now finishes)) ⌝ }
+    requires { ⌜ ((g : Graph) × ListsOf g kinds (now cores) (now words) (now edge) (now starts) × Sound g (workOf g m (now left) (now waiting) (now finishes))) ⌝ }
     requires { ⌜ 0 < count (isIn (m .busy)) 128 ⌝ }
-    ensures { λ r. ⌜ Leapt g (workOf g m (now (left .entry)) (now (waiting .entry)) (now (finishes .entry))) (workOf g r (now (left .exit)) (now (waiting .exit)) (now (finishes .exit))) ⌝ }
+    requires { ⌜ 0 < room ⌝ }
+    ensures { λ r. ⌜ ((g : Graph) → ListsOf g kinds (now (cores .entry)) (now (words .entry)) (now (edge .entry)) (now (starts .entry)) → Sound g (workOf g m (now (left .entry)) (now (waiting .entry)) (now (finishes .entry))) → Leapt g room (workOf g m (now (left .entry)) (now (waiting .entry)) (now (finishes .entry))) (workOf g r (now (left .exit)) (now (waiting .exit)) (now (finishes .exit)))) ⌝ }
 {
     let was_busy = m.busy;
     let was_behind = m.behind;
     let able = vset::minus(was_busy, was_behind);
-    let on = choice::chosen(g.kinds, cores, words, able, m.ran);
-    let d = remains::least(left, vset::minus(on, m.ran), m.least);
+    let on = choice::chosen(kinds, cores, words, able, m.ran);
+    let fewest = remains::least(left, vset::minus(on, m.ran), m.least);
+    let d = remains::lesser(fewest, room);
     let spent = remains::lower(left, on, d);
     let done = spent.over;
     let ran = vset::minus(on, done);
@@ -96,20 +102,19 @@ fn leap(
 }
 
 // Instant 0. What is finished there has its finish instant already: the table of these begins with zeros.
-fn at_start(g: Graph, run: Run, edge: &[u16; 1024], starts: &[u16; 129]) -> Outset
-    requires { ⌜ AcceptedGraph g ⌝ }
-    requires { ⌜ Fresh g run ⌝ }
-    requires { ⌜ (now edge ≡ g .edge) × (now starts ≡ table (firstEdge g) 129) ⌝ }
-    ensures { λ r. ⌜ Kept g (leftOf run) (workOf g (r .moment) (run .left) (r .waiting) (replicate 128 0)) ⌝ }
+fn at_start(n: usize, left: &[u32; 128], edge: &[u16; 1024], starts: &[u16; 129]) -> Outset
+    requires { ⌜ ((g : Graph) × EdgesOf g n (now edge) (now starts) × Timed g (now left)) ⌝ }
+    ensures { λ r. ⌜ r .moment .instant ≡ 0 ⌝ }
+    ensures { λ r. ⌜ ((g : Graph) → EdgesOf g n (now (edge .entry)) (now (starts .entry)) → Timed g (now (left .entry)) → Kept g (place (now (left .entry))) (workOf g (r .moment) (now (left .entry)) (r .waiting) (replicate 128 0))) ⌝ }
 {
-    let left = run.left;
-    let ran = run.ran;
-    let busy = ready::busy(left);
-    let begun = waiting::begun(edge, starts, g.n, busy);
+    let all = *left;
+    let busy = ready::busy(all);
+    let begun = waiting::begun(edge, starts, n, busy);
     let behind = begun.behind;
     let waiting = begun.waiting;
+    let ran = vset::none();
     let moment = Moment {
-        instant: run.instant,
+        instant: 0,
         ran,
         least: remains::TOP,
         busy,
@@ -118,35 +123,94 @@ fn at_start(g: Graph, run: Run, edge: &[u16; 1024], starts: &[u16; 129]) -> Outs
     Outset { moment, waiting }
 }
 
-// Leap after leap until no vertex has ticks left: at most N of them.
+// Leap after leap until no vertex has ticks left or the instant is d: at most N of them. The table holds what is left of each vertex at the
+// start, and then at the end.
+fn up_to<'a>(
+    kinds: usize,
+    n: usize,
+    cores: &'a [u8; 10],
+    kind: &'a [u8; 128],
+    edge: &'a [u16; 1024],
+    starts: &[u16; 129],
+    d: u32,
+    left: &mut [u32; 128],
+    finishes: &mut [u32; 128],
+) -> Moment
+    requires { ⌜ ((g : Graph) × GraphOf g kinds n (now cores) (now kind) (now edge) (now starts) × Timed g (now left)) ⌝ }
+    requires { ⌜ now finishes ≡ replicate 128 0 ⌝ }
+    ensures { λ r. ⌜ ((g : Graph) → GraphOf g kinds n (now (cores .entry)) (now (kind .entry)) (now (edge .entry)) (now (starts .entry)) → Timed g (now (left .entry)) → Stopped g (place (now (left .entry))) d r (now (left .exit)) (now (finishes .exit))) ⌝ }
+{
+    let words = choice::of_kinds(kind, n);
+    let outset = at_start(n, left, edge, starts);
+    let mut m = outset.moment;
+    let mut waiting = outset.waiting;
+    while !vset::is_empty(m.busy) & (m.instant < d as u64) {
+        let room = d - m.instant as u32;
+        m = leap(
+            m,
+            kinds,
+            cores,
+            &words,
+            edge,
+            starts,
+            left,
+            &mut waiting,
+            finishes,
+            room,
+        );
+    }
+    m
+}
+
+// The record at tick d, or at the finish where that comes before. Nothing is played past d.
+pub fn until(g: Graph, starts: &[u16; 129], run: Run, d: u32) -> Run
+    requires { ⌜ AcceptedGraph g ⌝ }
+    requires { ⌜ Fresh g run ⌝ }
+    requires { ⌜ now starts ≡ table (firstEdge g) 129 ⌝ }
+    ensures { λ r. ⌜ r ≡ untilOf g (leftOf run) d ⌝ }
+{
+    let mut left = run.left;
+    let mut finishes = [0u32; 128];
+    let m = up_to(
+        g.kinds,
+        g.n,
+        &g.cores,
+        &g.kind,
+        &g.edge,
+        starts,
+        d,
+        &mut left,
+        &mut finishes,
+    );
+    let ran = m.ran;
+    Run {
+        n: g.n,
+        instant: m.instant,
+        left,
+        ran,
+    }
+}
+
+// A whole run: no tick is as high as the highest number.
 pub fn play(g: Graph, starts: &[u16; 129], run: Run) -> Ended
     requires { ⌜ AcceptedGraph g ⌝ }
     requires { ⌜ Fresh g run ⌝ }
     requires { ⌜ now starts ≡ table (firstEdge g) 129 ⌝ }
     ensures { λ r. ⌜ r ≡ endOf g (leftOf run) ⌝ }
 {
-    let kind = g.kind;
-    let cores = g.cores;
-    let edge = g.edge;
-    let words = choice::of_kinds(&kind, g.n);
-    let outset = at_start(g, run, &edge, starts);
-    let mut m = outset.moment;
     let mut left = run.left;
-    let mut waiting = outset.waiting;
     let mut finishes = [0u32; 128];
-    while !vset::is_empty(m.busy) {
-        m = leap(
-            m,
-            g,
-            &cores,
-            &words,
-            &edge,
-            starts,
-            &mut left,
-            &mut waiting,
-            &mut finishes,
-        );
-    }
+    let m = up_to(
+        g.kinds,
+        g.n,
+        &g.cores,
+        &g.kind,
+        &g.edge,
+        starts,
+        remains::TOP,
+        &mut left,
+        &mut finishes,
+    );
     Ended {
         instant: m.instant,
         finishes,

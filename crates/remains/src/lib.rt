@@ -12,7 +12,7 @@ use vset::Vset;
 // The highest number. It stands for the fewest ticks left where there is nobody.
 pub const TOP: u32 = 4294967295;
 
-fn lesser(a: u32, b: u32) -> u32
+pub fn lesser(a: u32, b: u32) -> u32
     ensures { λ r. ⌜ r ≡ min a b ⌝ }
 {
     if b < a { b } else { a }

@@ -1,16 +1,12 @@
 -- From what the reader says of a file, and from what was found for its graph, to the entries' answers.
-use mathlib.Core.Path.{_≡_, refl, sym, ap, _∙_, fun-ext}
+use mathlib.Core.Path.{_≡_, refl, sym, ap, _∙_}
 use mathlib.Core.List.{List}
-use mathlib.Core.Logic.{⊎-elim}
-use mathlib.Core.Bool.{false}
-use Prim.Native.Nat.{ℕ, _≤_, _<_}
-use native.Mathlib.Omega.{arith}
-use lib.ListN.{getD, length, List·getD-eq-default}
+use Prim.Native.Nat.{ℕ, _≤_}
+use lib.ListN.{getD, length}
 use borrow.Author.Tests.{le-ltb}
 use Rattle.model.specs.Places.{table}
 use Rattle.model.specs.ListSchedule.{begin}
-use Rattle.model.proofs.Tables.{padded-at, padded-past}
-use Rattle.model.proofs.Bools.{le-or-lt}
+use Rattle.model.proofs.Tables.{padded-at}
 use Rattle.graph.specs.Model.{asModel, AcceptedGraph}
 use Rattle.graph.specs.Judge.{readOf}
 use Rattle.graph.specs.declared.Graph.{Graph}
@@ -23,8 +19,6 @@ use Rattle.tick.specs.declared.Report.the-variants.{Refused as NoTick}
 use Rattle.tick.specs.Run.{leftOf, recordOf}
 use Rattle.remains.specs.Remains.{place}
 use Rattle.model.proofs.Turns.{table-ext}
-use Rattle.vset.specs.Members.{isIn}
-use Rattle.vset.proofs.Same.{set-in}
 use Rattle.times.specs.Times.{timesOf, judgeTimes, Fitting}
 use Rattle.schedule.specs.Start.{refusedStart, startedOn, startOf}
 use Rattle.schedule.specs.Tick.{tickOn, tickOf}
@@ -32,6 +26,8 @@ use Rattle.schedule.specs.Whole.{playIn, playOn, playOf, filledBeside, f
 use Rattle.leaps.specs.Finishes.{finishAt, finishOf}
 use Rattle.leaps.specs.Leaps.{Fresh, endOf}
 use Rattle.leaps.specs.declared.Ended.{Ended}
+use Rattle.leaps.proofs.Instants.{left-start, fresh-start}
+use Rattle.times.proofs.Fits.{none-past}
 use Rattle.schedule.specs.declared.Played.{Played}
 use Rattle.schedule.specs.declared.Played.the-variants.{Finish, Refused as NoPlay}
 
@@ -86,30 +82,11 @@ module _ (g : Graph) (l : List ℕ) where
     abbrev begun : Run
     begun = recordOf (g .n) 0 (begin (timesOf l))
 
-    left-begun : (v : ℕ) → leftOf begun v ≡ timesOf l v
-    unfolding leftOf recordOf
-    left-begun v =
-        ⊎-elim
-        (λ (h : g .n ≤ v). padded-past 128 (timesOf l) (g .n) v h ∙ sym (List·getD-eq-default l 0 (omega (arith, fit .as-many))))
-        (λ (h : v < g .n). padded-at 128 (timesOf l) (g .n) v h)
-        (le-or-lt (g .n) v)
-
-    pub times-begun : leftOf begun ≡ timesOf l
-    times-begun = fun-ext left-begun
-
-    unmarked-begun : (v : ℕ) → isIn (begun .ran) v ≡ false
-    unfolding recordOf
-    unmarked-begun v = set-in (λ k. false) (λ k h. refl) v
+    times-begun : leftOf begun ≡ timesOf l
+    times-begun = left-start g A (timesOf l) (none-past g l fit)
 
     pub fresh-begun : Fresh g begun
-    unfolding recordOf
-    fresh-begun = record {
-      agrees = refl;
-      at-start = refl;
-      short = λ v h. omega (arith, left-begun v, fit .short v h);
-      past = λ v h. left-begun v ∙ List·getD-eq-default l 0 (omega (arith, fit .as-many));
-      unmarked = unmarked-begun;
-    }
+    fresh-begun = fresh-start g A (timesOf l) (none-past g l fit) (fit .short)
 
     -- the end of a whole run, as the answer and as the list that is handed over
     module _ (run : Run) (r : Ended) (is-begun : run ≡ begun) (ends : r ≡ endOf g (leftOf run)) where

@@ -8,37 +8,35 @@ use Prim.Native.Nat.{ℕ, zero, suc, _+_, _-_, _≤_, _<_}
 use native.Mathlib.Numerals.{add-one}
 use native.Mathlib.Omega.{arith}
 use lib.Dec.{ltb}
-use lib.ListN.{length, List·getD-eq-default}
-use borrow.Author.Tests.{ltb-true}
-use Rattle.model.specs.Places.{pick, every, sum}
+use lib.ListN.{length}
+use borrow.Author.Tests.{ltb-true, le-leb, lt-leb}
+use Rattle.model.specs.Places.{pick, sum}
 use Rattle.model.specs.Graph as model
 use Rattle.model.specs.Schedule.{Finished, Ready}
-use Rattle.model.specs.ListSchedule.{State, finished, begin, chosen, leap, step, steps, Fair}
-use Rattle.model.proofs.Bools.{clash, le-or-lt, not-true, left-of, right-of}
+use Rattle.model.specs.ListSchedule.{State, finished, begin, chosen, step, steps, Fair}
+use Rattle.model.proofs.Bools.{clash, le-or-lt, left-of, right-of}
 use Rattle.model.proofs.Places.{every-intro}
 use Rattle.model.proofs.Sums.{sum-most}
 use Rattle.model.proofs.Tables.{padded-length}
 use Rattle.model.proofs.Cycles.{ranked}
 use Rattle.model.proofs.Finished.{fin-less, ready-left, left-ready, all-finished-or}
 use Rattle.model.proofs.Tests.{finished-tells, ready-tells}
-use Rattle.model.proofs.Listed.{chosen-ready, some-chosen, fair-leap, fair-begin, left-steps}
-use Rattle.model.proofs.Leap.{ready-past}
+use Rattle.model.proofs.Listed.{chosen-ready, some-chosen, fair-leap, fair-begin}
 use Rattle.graph.specs.declared.Graph.{Graph}
 use Rattle.graph.specs.Model.{asModel, AcceptedGraph}
 use Rattle.vset.specs.Members.{isIn}
-use Rattle.model.proofs.Places.{first-below}
 use Rattle.tick.specs.declared.Run.{Run}
 use Rattle.tick.specs.declared.Ticked.{Ticked}
 use Rattle.tick.specs.declared.Report.the-variants.{Moved, Done}
 use Rattle.tick.specs.Run.{leftOf, stateOf, recordOf, over, tickedOf}
 use Rattle.tick.specs.Suits.{suits, Suits}
-use Rattle.tick.proofs.Records.{state-record}
 use Rattle.tick.proofs.Suiting.{suits-sound, suits-complete, passed, nothing-left}
-use Rattle.times.specs.Times.{timesOf}
-use Rattle.leaps.specs.Finishes.{doneAt, finishOf}
-use Rattle.times.specs.Times.{Fitting}
+use Rattle.times.specs.Times.{timesOf, Fitting}
+use Rattle.times.proofs.Fits.{none-past}
+use Rattle.leaps.specs.Finishes.{finishOf}
+use Rattle.leaps.specs.Leaps.{recordAt}
 use Rattle.tick.proofs.Moved.{unchosen, moved-state, moved-left, moved-ran, less-left, spend}
-use Rattle.leaps.proofs.Finishes.{finish-of-all}
+use Rattle.leaps.proofs.Instants as instants
 
 -- the record after t ticks
 unfoldable pub ticked : Graph → ℕ → Run → Run
@@ -124,41 +122,23 @@ module _ (g : Graph) (A : AcceptedGraph g) where
     e = timesOf l
 
     abbrev at : ℕ → Run
-    at t = recordOf (g .n) t (steps G t (begin e))
+    at = recordAt g e
 
     e-past : (v : ℕ) → g .n ≤ v → e v ≡ 0
-    e-past v h = List·getD-eq-default l 0 (omega (arith, fit .as-many))
-
-    rest-past : (t v : ℕ) → g .n ≤ v → steps G t (begin e) .rest v ≡ 0
-    unfolding steps leap
-    rest-past zero v h = e-past v h
-    rest-past (suc t) v h = omega (arith, rest-past t v h)
-
-    ran-past : (t v : ℕ) → g .n ≤ v → steps G t (begin e) .ran v ≡ false
-    unfolding steps leap asModel
-    ran-past zero v h = refl
-    ran-past (suc t) v h =
-        ap (λ (b : Bool). b && ltb 0 (steps G t (begin e) .rest v - pick (chosen G (steps G t (begin e)) v) 1 0))
-        (not-true (chosen G (steps G t (begin e)) v) (λ x. clash (chosen-ready G (steps G t (begin e)) v x) (ready-past (A .well-formed) (steps G t (begin e) .rest) v h (rest-past t v h))))
+    e-past = none-past g l fit
 
     state-at : (t : ℕ) → stateOf (at t) ≡ steps G t (begin e)
-    state-at t = state-record (g .n) t (steps G t (begin e)) (A .few-vertices) (rest-past t) (ran-past t)
+    state-at = instants.state-at g A e e-past
 
     long-at : (t : ℕ) → length (at t .left) ≡ 128
     unfolding recordOf
     long-at t = padded-length 128 (steps G t (begin e) .rest) (g .n) (A .few-vertices)
 
     left-at : (t : ℕ) → leftOf (at t) ≡ steps G t (begin e) .rest
-    unfolding stateOf
-    left-at t = ap (λ (x : State). x .rest) (state-at t)
-
-    over-at : (t : ℕ) → over g (at t) ≡ every (doneAt G e t) (g .n)
-    unfolding over doneAt
-    over-at t = ap (λ (c : ℕ → ℕ). every (finished G c) (g .n)) (left-at t)
+    left-at = instants.left-at g A e e-past
 
     unfinished-at : (t : ℕ) → t < finishOf G e → over g (at t) ≡ false
-    unfolding finishOf asModel
-    unfinished-at t h = over-at t ∙ first-below (λ t. every (doneAt G e t) (g .n)) (sum e (g .n)) t h
+    unfinished-at t h = instants.over-at g A e e-past t (omega arith) ∙ lt-leb (finishOf G e) t h
 
     -- THEOREM. A started record suits its graph.
     pub start-suits : suits g (at 0) ≡ true
@@ -169,7 +149,7 @@ module _ (g : Graph) (A : AcceptedGraph g) where
       in-time = omega (arith, A .few-vertices, sum-most (leftOf (at 0)) 1000000 (g .n) (λ v h. omega (arith, ap (λ (c : ℕ → ℕ). c v) (left-at 0), fit .short v h, A .short v h)));
       marked-ready = λ v h t. absurd (clash t (ap (λ (x : State). x .ran v) (state-at 0)));
       few-marked = subst (Fair G) (sym (state-at 0)) (fair-begin G e);
-      zero-past = λ v h k. ap (λ (c : ℕ → ℕ). c v) (left-at 0) ∙ rest-past 0 v h;
+      zero-past = λ v h k. ap (λ (c : ℕ → ℕ). c v) (left-at 0) ∙ e-past v h;
       unmarked-past = λ v h k. ap (λ (x : State). x .ran v) (state-at 0);
     })
 
@@ -183,9 +163,8 @@ module _ (g : Graph) (A : AcceptedGraph g) where
     tick-moves t h = rw (unfinished-at t h) (ap {B = Ticked} (λ (r : Run). record { report = Moved; run = r }) (next-at t))
 
     pub tick-done : tickedOf g (at (finishOf G e)) ≡ record { report = Done; run = at (finishOf G e) }
-    unfolding tickedOf doneAt asModel
-    tick-done = rw (over-at (finishOf G e) ∙ every-intro (doneAt G e (finishOf G e)) (g .n) (λ v h.
-        finished-tells (A .well-formed) (steps G (finishOf G e) (begin e) .rest) (A .acyclic) .complete v h (rw (left-steps G e (finishOf G e)) at (finish-of-all (A .well-formed) (A .acyclic) e .all v h)))) refl
+    unfolding tickedOf
+    tick-done = rw (instants.over-at g A e e-past (finishOf G e) (omega arith) ∙ le-leb (finishOf G e) (finishOf G e) (omega arith)) refl
 
     suits-next : (t : ℕ) → suits g (at t) ≡ true → t < finishOf G e → suits g (recordOf (g .n) (t + 1) (step G (stateOf (at t)))) ≡ true
     unfolding recordOf

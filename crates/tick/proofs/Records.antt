@@ -3,7 +3,7 @@ use mathlib.Core.Path.{_≡_, refl, sym, ap, ap₂, _∙_, fun-ext}
 use mathlib.Core.Logic.{⊎-elim}
 use mathlib.Core.List.{List}
 use mathlib.Core.Bool.{Bool, true, false, not, _&&_}
-use Prim.Native.Nat.{ℕ, zero, suc, _+_, _-_, _≤_, _<_}
+use Prim.Native.Nat.{ℕ, zero, suc, _+_, _-_, _^_, _≤_, _<_}
 use native.Mathlib.Omega.{arith}
 use lib.Dec.{eqb, ltb}
 use lib.ListN.{getD, length, List·getD-eq-default}
@@ -14,7 +14,7 @@ use Rattle.model.specs.ListSchedule.{State, chosen, leap}
 use Rattle.model.proofs.Bools.{le-or-lt}
 use Rattle.model.proofs.Tables.{table-length, table-at, padded-at, padded-past}
 use Rattle.vset.specs.declared.Vset.{Vset}
-use Rattle.vset.specs.Members.{Members}
+use Rattle.vset.specs.Members.{isIn, Members}
 use Rattle.vset.proofs.Gather.{members-ext}
 use Rattle.vset.proofs.Same.{set-of, set-in}
 use Rattle.tick.specs.declared.Run.{Run}
@@ -63,3 +63,12 @@ state-record n t s l nought none =
     ap₂ {C = State} (λ (x : ℕ → ℕ) (y : ℕ → Bool). record { rest = x; ran = y })
     (fun-ext (λ v. ⊎-elim (λ (h : n ≤ v). padded-past 128 (s .rest) n v h ∙ sym (nought v h)) (λ (h : v < n). padded-at 128 (s .rest) n v h) (le-or-lt n v)))
     (fun-ext (λ v. set-in (s .ran) (λ k h. none k (omega arith)) v))
+
+-- the record of the state of a record, where its places from n on are zero and its marks are words
+pub record-state : (r : Run) → r .n ≤ 128 → length (r .left) ≡ 128 → ((v : ℕ) → r .n ≤ v → leftOf r v ≡ 0) → r .ran .lo < 2 ^ 64 → r .ran .hi < 2 ^ 64
+    → r ≡ recordOf (r .n) (r .instant) (stateOf r)
+unfolding stateOf recordOf leftOf
+record-state r few long past low high =
+    ap₂ {C = Run} (λ (x : List ℕ) (y : Vset). record { n = r .n; instant = r .instant; left = x; ran = y })
+    (as-padded (leftOf r) 128 (r .n) (r .left) few long (λ v h. refl) (λ v h k. past v h))
+    (set-of (r .ran) (isIn (r .ran)) (record { low = low; high = high; are = λ k. refl }))

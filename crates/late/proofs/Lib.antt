@@ -1,0 +1,4 @@
+-- Laws that belong to no one function.
+pub mod Answers
+pub mod Unique
+pub mod Outcomes
