@@ -40,8 +40,8 @@ struct input {
 enum wanted { NOTHING, BASE, ORDER };
 
 /* Which calls are timed. A graph with more than 4,096 complete paths doesn't get the second bound, and one that is there for it says nothing
-   new of the others. */
-enum timed { EVERY_CALL, BUT_SECOND, SECOND_ALONE };
+   new of the others. Nor does one whose times alone are large, but of the runs. */
+enum timed { EVERY_CALL, BUT_SECOND, SECOND_ALONE, RUNS_ALONE };
 
 /* A row of the table: one input, or one graph in several numberings, which take turns while a call is timed. A file that is timed over and
    over is learnt by heart: the processor comes to foresee its every branch, as it can't with a file that is new to it. */
@@ -151,6 +151,12 @@ static int differ_gains_altered_with(const struct input *in, size_t vertex, uint
     return !same(a.number, a.place, b.number, b.place) || a.count != b.count || memcmp(one, other, sizeof one);
 }
 
+static int differ_late_with(const struct input *in, const uint32_t *times, size_t count, uint32_t d) {
+    PlannerLate a = planner_late(in->file, in->length, times, count, d);
+    struct plain_late b = plain_late(in->file, in->length, times, count, d);
+    return !same(a.number, a.place, b.number, b.place) || a.yes != b.yes || a.played != b.played;
+}
+
 static int differ_second(const struct input *in) {
     PlannerSecond a = planner_second(in->file, in->length);
     struct plain_second b = plain_second(in->file, in->length);
@@ -166,6 +172,17 @@ static uint32_t below(uint32_t n) {
     seed ^= seed >> 7;
     seed ^= seed << 17;
     return (uint32_t)(seed >> 32) % n;
+}
+
+/* By ticks around the run's finish and around NEW-B-1's, by one anywhere in the run, and by the largest. */
+static int differ_late_around(const struct input *in, const uint32_t *times) {
+    uint32_t finishes[VERTICES], finish = (uint32_t)plain_run(in->file, in->length, times, in->n, finishes, VERTICES).finish;
+    uint32_t ticks = (uint32_t)plain_bounds(in->file, in->length).ticks;
+    uint32_t ds[] = {0, finish - 1, finish, finish + 1, ticks - 1, ticks, ticks + 1, below(finish + 1), UINT32_MAX / 2, UINT32_MAX};
+    for (size_t i = 0; i < sizeof ds / sizeof ds[0]; i++)
+        if (differ_late_with(in, times, in->n, ds[i]))
+            return 1;
+    return 0;
 }
 
 /* Some ticks of a run with these times; then of a record with one thing changed, which may or may not suit any more. */
@@ -201,6 +218,8 @@ static int differ_any(const struct input *in) {
             times[v] = below(4) < (uint32_t)i ? 0 : below(in->times[v] + 1);
         if (differ_run_with(in, times, in->n, in->n))
             return differ(in, "run");
+        if (differ_late_around(in, times))
+            return differ(in, "late");
         if (differ_start_with(in, times, in->n))
             return differ(in, "start");
         if (differ_ticks(in, times))
@@ -212,6 +231,9 @@ static int differ_any(const struct input *in) {
     if (differ_run_with(in, in->times, in->n, VERTICES) || differ_run_with(in, in->times, in->n, in->n - 1) ||
         differ_run_with(in, in->times, in->n - 1, VERTICES) || differ_run_with(in, times, in->n, VERTICES))
         return differ(in, "run");
+    if (differ_late_around(in, in->times) || differ_late_with(in, in->times, in->n - 1, 0) || differ_late_with(in, times, in->n, UINT32_MAX) ||
+        differ_late_with(in, times, in->n, 0))
+        return differ(in, "late");
     if (differ_gains_with(in, VERTICES) || differ_gains_with(in, in->n) || differ_gains_with(in, in->n - 1))
         return differ(in, "gains");
     size_t v = below((uint32_t)in->n);
@@ -428,6 +450,21 @@ static void many_beside(struct input *in, const char *name) {
     from_lists(in, name, has);
 }
 
+/* The longest run: one type of one core, and all 128 vertices one behind the other, each at the largest WCET. */
+static void longest_run(struct input *in, const char *name) {
+    uint8_t has[VERTICES][VERTICES] = {{0}};
+    in->kinds = 1;
+    in->vertices = VERTICES;
+    in->cores[0] = 1;
+    for (size_t v = 0; v < VERTICES; v++) {
+        in->kind[v] = 0;
+        in->wcet[v] = 1000000;
+        if (v > 0)
+            has[v - 1][v] = 1;
+    }
+    from_lists(in, name, has);
+}
+
 /* New numbers: against the edges, where they went upwards; from the lowest to the highest and back, so that along a path every other edge
    goes down; and any. */
 static void against(uint8_t *as, size_t n) {
@@ -558,6 +595,14 @@ static uint32_t proved_second(const struct input *in) {
     return told(a.number, a.parts);
 }
 
+/* By the middle of the run: not yet, and half of it is played. */
+static uint32_t middle(const struct input *in) { return (uint32_t)in->half.instant; }
+
+static uint32_t proved_late(const struct input *in) {
+    PlannerLate a = planner_late(in->file, in->length, in->times, in->n, middle(in));
+    return told(a.number, a.played);
+}
+
 static uint32_t c_read(const struct input *in) {
     struct plain_graph a = plain_read(in->file, in->length);
     return told(a.number, a.edges);
@@ -605,6 +650,11 @@ static uint32_t c_second(const struct input *in) {
     return told(a.number, a.parts);
 }
 
+static uint32_t c_late(const struct input *in) {
+    struct plain_late a = plain_late(in->file, in->length, in->times, in->n, middle(in));
+    return told(a.number, a.played);
+}
+
 /* Just what is timed, compared. */
 static int differ_write(const struct input *in) { return differ_write_with(in, in->vertices, ROOM); }
 static int differ_path(const struct input *in) { return differ_path_with(in, VERTICES); }
@@ -612,6 +662,7 @@ static int differ_start(const struct input *in) { return differ_start_with(in, i
 static int differ_run(const struct input *in) { return differ_run_with(in, in->times, in->n, VERTICES); }
 static int differ_gains(const struct input *in) { return differ_gains_with(in, VERTICES); }
 static int differ_gains_altered(const struct input *in) { return differ_gains_altered_with(in, in->n / 2, in->times[in->n / 2] / 2, VERTICES); }
+static int differ_late(const struct input *in) { return differ_late_with(in, in->times, in->n, middle(in)); }
 static int differ_sheet(const struct input *in) { return differ_bounds(in) || differ_path(in) || differ_gains(in); }
 static int differ_tick(const struct input *in) {
     PlannerRecord run = in->half;
@@ -631,13 +682,18 @@ static const struct {
     {"start", proved_start, c_start, differ_start, NOTHING},  {"tick", proved_tick, c_tick, differ_tick, NOTHING},
     {"run", proved_run, c_run, differ_run, BASE},             {"gains", proved_gains, c_gains, differ_gains, ORDER},
     {"altered", proved_altered, c_altered, differ_gains_altered, ORDER}, {"second", proved_second, c_second, differ_second, ORDER},
-    {"sheet", proved_sheet, c_sheet, differ_sheet, ORDER},
+    {"late", proved_late, c_late, differ_late, ORDER},       {"sheet", proved_sheet, c_sheet, differ_sheet, ORDER},
 };
 #define CALLS (sizeof calls / sizeof calls[0])
 
 static int is_timed(const struct row *row, size_t call) {
-    int second = calls[call].proved == proved_second;
-    return row->timed == EVERY_CALL || (row->timed == SECOND_ALONE) == second;
+    work w = calls[call].proved;
+    switch (row->timed) {
+    case BUT_SECOND: return w != proved_second;
+    case SECOND_ALONE: return w == proved_second;
+    case RUNS_ALONE: return w == proved_run || w == proved_late;
+    default: return 1;
+    }
 }
 
 /* Of so many calls for each file of the row, in turn. */
@@ -720,7 +776,7 @@ static int missed(const struct row *row, const double *ratios) {
 /* The rows. */
 
 static struct input case_a, board, board_turns[TURNS], largest[3], largest_turns[TURNS], deep[3], deep_turns[TURNS], wide, wide_turns[TURNS];
-static struct input ends, ends_turns[TURNS], paths[2];
+static struct input ends, ends_turns[TURNS], paths[2], longest;
 
 /* By what is wanted. On four vertices what a call does whatever the graph, such as zeroing tables, is most of it. */
 #define FOUR {[BASE] = 3}
@@ -736,7 +792,7 @@ static const struct row rows[] = {
     {deep_turns, TURNS, LARGE, BUT_SECOND},
     {&wide, 1, LARGE, EVERY_CALL},       {wide_turns, TURNS, LARGE, EVERY_CALL},
     {&ends, 1, LARGE, EVERY_CALL},       {ends_turns, TURNS, LARGE, EVERY_CALL},
-    {&paths[0], 1, PATHS, SECOND_ALONE}, {&paths[1], 1, PATHS, SECOND_ALONE},
+    {&paths[0], 1, PATHS, SECOND_ALONE}, {&paths[1], 1, PATHS, SECOND_ALONE}, {&longest, 1, LARGE, RUNS_ALONE},
 };
 #define ROWS (sizeof rows / sizeof rows[0])
 
@@ -749,6 +805,7 @@ static int make_inputs(void) {
     open_ends(&ends, "open");
     many_paths(&paths[0], "4,096 paths");
     many_beside(&paths[1], "4,096 paths, beside");
+    longest_run(&longest, "128,000,000 ticks");
     renumbered(&largest[1], 1, "largest, against", &largest[0], against);
     renumbered(&largest[2], 1, "largest, to and fro", &largest[0], to_and_fro);
     renumbered(&deep[1], 1, "deepest, against", &deep[0], against);
@@ -798,7 +855,7 @@ int main(int count, char **words) {
         if (compare(&rows[i], ratios_only, ratios[i]))
             return 1;
     if (goals)
-        printf("\n| input | goal of read, bounds, path, run | of gains, altered, second, sheet | within them |\n|---|---|---|---|\n");
+        printf("\n| input | goal of read, bounds, path, run | of gains, altered, second, late, sheet | within them |\n|---|---|---|---|\n");
     for (size_t i = 0; goals && i < ROWS; i++)
         some |= missed(&rows[i], ratios[i]);
     return some;

@@ -39,6 +39,11 @@ struct plain_second {
     uint64_t parts;
 };
 
+struct plain_late {
+    uint32_t number, place;
+    uint64_t yes, played;
+};
+
 struct plain_record {
     size_t n;
     uint64_t instant;
@@ -63,5 +68,6 @@ struct plain_finish plain_run(const uint8_t *file, size_t length, const uint32_t
 struct plain_count plain_gains(const uint8_t *file, size_t length, uint64_t *gains, size_t room);
 struct plain_count plain_gains_altered(const uint8_t *file, size_t length, uint32_t vertex, uint32_t wcet, uint64_t *gains, size_t room);
 struct plain_second plain_second(const uint8_t *file, size_t length);
+struct plain_late plain_late(const uint8_t *file, size_t length, const uint32_t *times, size_t count, uint32_t d);
 
 #endif

@@ -60,6 +60,7 @@
 #define PLANNER_STACK_GAINS 12288
 #define PLANNER_STACK_GAINS_ALTERED 16384
 #define PLANNER_STACK_SECOND 16384
+#define PLANNER_STACK_LATE 12288
 
 #ifdef __cplusplus
 #define PLANNER_SIZE(type, size) static_assert(sizeof(type) == (size), "the library lays " #type " out otherwise")
@@ -149,6 +150,14 @@ typedef struct PlannerSecond {
 } PlannerSecond;
 PLANNER_SIZE(PlannerSecond, 16);
 
+typedef struct PlannerLate {
+    uint32_t number;
+    uint32_t place;
+    uint64_t yes;    /* 1 where the run ends by the tick; 0 where it doesn't, or refused */
+    uint64_t played; /* in ticks; 0 beside a refusal */
+} PlannerLate;
+PLANNER_SIZE(PlannerLate, 24);
+
 /* Reads a file: its counts and lists. Refuses with 1 to 11. */
 PlannerGraph planner_read(const uint8_t *file, size_t file_length);
 
@@ -199,6 +208,12 @@ PlannerCount planner_gains_altered(const uint8_t *file, size_t file_length, uint
    most NEW-B-1, and no work-conserving schedule of the graph ends after it: in whole ticks it is `parts` / 720720, rounded down. Refuses with
    1 to 11, then 17 at 0 (the graph has more than 4,096 complete paths; NEW-B-1 has no such limit). */
 PlannerSecond planner_second(const uint8_t *file, size_t file_length);
+
+/* Late or not: `yes` is 1 where the run with these execution times ends by tick `d`, that is, where the finish that planner_run gives is at
+   most `d`. `played` is how many ticks of the run were played to tell: none where NEW-B-1's whole ticks are at most `d`, since no run ends
+   after them, and otherwise the smaller of `d` and the finish. Any `d` will do, and what a call costs grows with neither `d` nor the times.
+   Refuses with 1 to 11, then 13, then 14, as a start does. */
+PlannerLate planner_late(const uint8_t *file, size_t file_length, const uint32_t *times, size_t times_length, uint32_t d);
 
 #ifdef __cplusplus
 }

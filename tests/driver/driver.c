@@ -338,6 +338,25 @@ static void letter_n(void)
     field(a.parts);
 }
 
+/* A yes is 1, and a number of ticks stands behind every answer; what else stands there is shown. */
+static void letter_d(void)
+{
+    struct list file = take_list(1), times = take_list(4);
+    uint32_t d = take_word();
+    if (!all_taken())
+        return;
+    PlannerLate a = planner_late(file.at, file.length, times.at, times.length, d);
+    const char *word = a.yes == 0 ? "no" : "yes";
+    if (refused(a.number, a.place, word)) {
+        text(" ");
+        text(word);
+    }
+    if (a.yes > 1)
+        field(a.yes);
+    text(" played");
+    field(a.played);
+}
+
 static struct letter {
     char letter;
     void (*answer)(void);
@@ -356,6 +375,7 @@ static struct letter {
     {'G', letter_g, "planner_gains", PLANNER_STACK_GAINS, 0},
     {'A', letter_a, "planner_gains_altered", PLANNER_STACK_GAINS_ALTERED, 0},
     {'N', letter_n, "planner_second", PLANNER_STACK_SECOND, 0},
+    {'D', letter_d, "planner_late", PLANNER_STACK_LATE, 0},
 };
 enum { LETTERS = sizeof letters / sizeof letters[0] };
 

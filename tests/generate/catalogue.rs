@@ -1,6 +1,7 @@
 //! The requests that are asked for every seed: the worked cases, and every limit from both sides.
 
 use super::graphs::{chain, exactly};
+use super::late;
 use super::lists::{edge, file_of as file_of_records, lists_of, records_of};
 use super::random::Random;
 use super::request::{self, Request, LARGEST_ROOM, LONGEST_PAYLOAD};
@@ -22,6 +23,8 @@ pub fn catalogue() -> Vec<Request> {
     requests.extend(instants_at_the_limit());
     requests.extend(gains_at_the_limits());
     requests.extend(alterations_of_refused_files());
+    requests.extend(ends_of_small_runs());
+    requests.extend(late_and_refused());
     for file in numbers_of_paths().iter().map(file_of) {
         requests.extend([request::bounds(&file), request::second(&file)]);
     }
@@ -241,6 +244,8 @@ fn questions_of(file: &[u8]) -> Vec<Request> {
         request::gains_altered(file, 0, 0, n),
         request::gains_altered(file, n as u64, MOST_WCET as u64 + 1, 0),
         request::second(file),
+        request::late(file, &times, 0),
+        request::late(file, &times, u32::MAX as u64),
     ]
 }
 
@@ -252,6 +257,7 @@ fn questions_of_graph(graph: &Graph) -> Vec<Request> {
     requests.extend([-1, 0, 1].map(|more: isize| request::write(&lists, file.len().saturating_add_signed(more))));
     requests.extend([-1, 0, 1].map(|more: isize| request::run(&file, &graph.wcets, n.saturating_add_signed(more))));
     requests.extend((0..n).step_by(n / 8 + 1).map(|v| request::gains_altered(&file, v as u64, MOST_WCET as u64, n)));
+    requests.extend(ends_of(graph, &graph.wcets));
     requests.push(request::start(&file, &graph.wcets));
     requests.push(request::tick(&file, &middle));
     requests.push(request::tick_in_place(&file, &middle));
@@ -283,6 +289,8 @@ fn wide_requests() -> Vec<Request> {
             requests.push(request::gains_altered(file, number, 3, 4));
             requests.push(request::gains_altered(file, 1, number, 4));
             requests.push(request::gains_altered(file, number, number, 4));
+            requests.push(request::late(file, &[4, 9, 6, 3], number));
+            requests.push(request::late(file, &[], number));
         }
     }
     for longer in [0, 1] {
@@ -290,6 +298,7 @@ fn wide_requests() -> Vec<Request> {
         requests.push(request::bounds(&vec![0x56; LONGEST_PAYLOAD - 4 + longer]));
         let times = (LONGEST_PAYLOAD - 8 - file.len()) / 4 + longer;
         requests.push(request::start(&file, &vec![0; times]));
+        requests.push(request::late(&file, &vec![0; times - 2], 0));
     }
     requests.extend([Request::of(0), Request::of(b'R'), Request::of(b'?'), request::read(&[])]);
     requests
@@ -363,6 +372,52 @@ fn alterations_of_refused_files() -> Vec<Request> {
     let mut requests = Vec::new();
     for vertex in [1, 2, 3, 4] {
         requests.extend([3, MOST_WCET + 1].map(|wcet| request::gains_altered(&file, vertex, wcet as u64, 4)));
+    }
+    requests
+}
+
+/// Both sides of the finish and of the bound, the middle of the run, and the ends of 32 bits.
+fn ends_of(graph: &Graph, times: &[u32]) -> Vec<Request> {
+    let file = file_of(graph);
+    late::limits(graph, times).into_iter().map(|d| request::late(&file, times, d as u64)).collect()
+}
+
+/// Every tick up to the bound and past it, of the worked cases and of some small runs: at full times, for case E's, and where
+/// nothing takes time.
+fn ends_of_small_runs() -> Vec<Request> {
+    let random = &mut Random::new(0, 6);
+    let mut runs = vec![(graph_of(&case_d()), vec![0, 2, 2, 5, 1, 6, 0])];
+    for lists in [case_a(), case_d(), case_f(), two_longest_paths(), two_sources(), two_without_an_edge()] {
+        let graph = graph_of(&lists);
+        runs.extend([graph.wcets.clone(), vec![0; graph.vertices()]].map(|times| (graph.clone(), times)));
+    }
+    for _ in 0..6 {
+        let graph = exactly(random, 2, 7, 10);
+        let graph = Graph { wcets: graph.wcets.iter().map(|c| c % 5).collect(), ..graph };
+        runs.push((graph.clone(), graph.wcets.iter().map(|&c| random.up_to(c as u64) as u32).collect()));
+    }
+    let mut requests = Vec::new();
+    for (graph, times) in runs {
+        let file = file_of(&graph);
+        let past = late::limits(&graph, &times).into_iter().filter(|&d| d < u32::MAX).max().unwrap_or(0);
+        requests.extend((0..=past).map(|d| request::late(&file, &times, d as u64)));
+    }
+    requests
+}
+
+/// Refused whatever the tick, also where the bound alone would say yes: 13 before 14, and both after the file's own.
+fn late_and_refused() -> Vec<Request> {
+    let file = file_of_records(&records_of(&case_a()));
+    let mut cyclic = case_a();
+    cyclic.edges.push(edge(3, 0));
+    let cyclic = file_of_records(&records_of(&cyclic));
+    let mut requests = Vec::new();
+    for d in [0, 15, 16, 19, u32::MAX as u64] {
+        for times in
+            [&[4, 10, 6, 3][..], &[5, 10, 7, 4], &[4, 9, 6, u32::MAX], &[4, 9, 6], &[4, 10, 6], &[4, 9, 6, 3, 0], &[]]
+        {
+            requests.extend([&file, &cyclic].map(|file| request::late(file, times, d)));
+        }
     }
     requests
 }

@@ -8,6 +8,7 @@
 //!   damage     blind damage to a file
 //!   runs       execution times and run records, fitting and not
 //!   altered    a vertex and a new WCET for it, fitting and not
+//!   late       the tick that a run is asked to end by
 //!   request    how a request travels
 //!   catalogue  the worked cases and every limit, the same for each seed
 //!   malformed  requests that are none
@@ -18,6 +19,7 @@ pub mod catalogue;
 pub mod damage;
 pub mod faults;
 pub mod graphs;
+pub mod late;
 pub mod lists;
 pub mod malformed;
 pub mod random;

@@ -87,6 +87,11 @@ pub fn second(file: &[u8]) -> Request {
     Request::of(b'N').list(file)
 }
 
+/// The tick is of 32 bits where the request is one; as a number it may have more.
+pub fn late(file: &[u8], times: &[u32], d: u64) -> Request {
+    Request::of(b'D').list(file).list(&words(times)).number(d)
+}
+
 fn words(list: &[u32]) -> Vec<u8> {
     list.iter().flat_map(|w| w.to_le_bytes()).collect()
 }

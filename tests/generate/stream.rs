@@ -6,13 +6,14 @@ use super::catalogue::catalogue;
 use super::damage::damage;
 use super::faults::{file_with, plant};
 use super::graphs;
+use super::late;
 use super::lists::{file_of as file_of_records, lists_of, records_of};
 use super::malformed::spoilt;
 use super::random::Random;
 use super::request::{self, Request, LARGEST_ROOM};
 use super::runs::{any_times, damaged, reached, unreached};
 use super::ways;
-use crate::reference::graph::{Graph, MOST_WCET, RECORD};
+use crate::reference::graph::{Graph, MOST_VERTICES, MOST_WCET, RECORD};
 use crate::reference::writer::{file_of, Lists};
 
 pub struct Stream {
@@ -34,7 +35,7 @@ impl Stream {
 }
 
 fn any_request(random: &mut Random) -> Request {
-    let request = match random.below(28) {
+    let request = match random.below(32) {
         0..=3 => request::read(&any_file(random, 3).1),
         4..=5 => any_write(random),
         6..=7 => request::bounds(&any_file(random, 8).1),
@@ -44,7 +45,8 @@ fn any_request(random: &mut Random) -> Request {
         14..=15 => any_run(random),
         16..=19 => any_gains(random),
         20..=23 => any_gains_altered(random),
-        _ => any_second(random),
+        24..=27 => any_second(random),
+        _ => any_late(random),
     };
     if random.one_in(20) {
         spoilt(random, request)
@@ -155,6 +157,21 @@ fn any_tick(random: &mut Random) -> Request {
 fn any_run(random: &mut Random) -> Request {
     let (graph, file) = any_file(random, 8);
     request::run(&file, &any_times(random, &graph), any_room(random, graph.vertices()))
+}
+
+/// Now and then the longest run that there is: any of its ticks may be asked for.
+fn any_late(random: &mut Random) -> Request {
+    let (mut graph, mut file) = any_file(random, 8);
+    if random.one_in(30) {
+        graph = graphs::chain(MOST_VERTICES, random.between(1, 16) as u8, MOST_WCET);
+        file = file_of(&graph);
+    }
+    let times = any_times(random, &graph);
+    let mut d = late::tick(random, &graph, &times);
+    if random.one_in(40) {
+        d = altered::too_wide(random, d);
+    }
+    request::late(&file, &times, d)
 }
 
 /// Every other graph is made to have a number of complete paths.

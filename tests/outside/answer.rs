@@ -3,6 +3,7 @@
 use crate::generate::request::{Request, LARGEST_ROOM, LONGEST_PAYLOAD};
 use crate::reference::bounds::{bounds, path};
 use crate::reference::gains::{gains, gains_altered};
+use crate::reference::late::late;
 use crate::reference::reader::read;
 use crate::reference::record::RunRecord;
 use crate::reference::refusal::Refusal;
@@ -33,6 +34,7 @@ pub fn answer(request: &Request) -> String {
         b'G' => answer_gains(fields),
         b'A' => answer_gains_altered(fields),
         b'N' => answer_second(fields),
+        b'D' => answer_late(fields),
         _ => None,
     };
     line.unwrap_or(BAD.to_string())
@@ -100,6 +102,12 @@ impl<'a> Fields<'a> {
     fn room(&mut self) -> Option<usize> {
         let room = self.number()?;
         (room <= LARGEST_ROOM as u64).then_some(room as usize)
+    }
+
+    fn of_late(mut self) -> Option<(&'a [u8], Vec<u32>, u32)> {
+        let (file, times, d) = (self.list()?, self.list_of_words()?, self.word()?);
+        self.end()?;
+        Some((file, times, d))
     }
 
     fn end(self) -> Option<()> {
@@ -203,6 +211,19 @@ fn answer_second(mut fields: Fields) -> Option<String> {
         Err(refusal) => format!("{} second 0", refused(refusal)),
         Ok(parts) => format!("second {parts}"),
     })
+}
+
+fn answer_late(fields: Fields) -> Option<String> {
+    let (file, times, d) = fields.of_late()?;
+    Some(match read(file).and_then(|graph| late(&graph, &times, d)) {
+        Err(refusal) => format!("{} no played 0", refused(refusal)),
+        Ok(answer) => format!("{} played {}", if answer.yes { "yes" } else { "no" }, answer.played),
+    })
+}
+
+/// What a request whether a run is late asks about: file, times and tick.
+pub fn asked_late(request: &Request) -> Option<(&[u8], Vec<u32>, u32)> {
+    Fields(&request.payload).of_late()
 }
 
 fn told_gains(outcome: Result<Vec<u64>, Refusal>, room: usize) -> String {

@@ -1,18 +1,20 @@
 //! The reference alone: which answers its own requests get, and whether every one of them occurs.
 
-use crate::answer::{answer, answers};
+use crate::answer::{answer, answers, asked_late};
 use crate::compare::cut_input;
 use crate::crosscheck;
 use crate::generate::request::Request;
 use crate::generate::stream::Stream;
 use crate::options::Options;
+use crate::reference::bounds::bounds;
 use crate::reference::graph::Graph;
+use crate::reference::late::finish;
 use crate::reference::reader::read;
 use std::collections::BTreeMap;
 
 /// What can be answered to each letter: 12 never. `-` is any request that isn't one. A 7 of A is the file's own; the two
 /// 7s of what is altered have words: `vertex` where the graph doesn't have it, `wcet` where the new one is above the limit.
-const POSSIBLE: [(char, &str, &[u32]); 12] = [
+const POSSIBLE: [(char, &str, &[u32]); 13] = [
     ('R', "graph", &[1, 2, 3, 4, 5, 6, 7, 8, 9, 10, 11]),
     ('W', "wrote", &[4, 5, 6, 7, 8, 9, 10, 11, 13, 15]),
     ('B', "old", &[1, 2, 3, 4, 5, 6, 7, 8, 9, 10, 11]),
@@ -24,6 +26,7 @@ const POSSIBLE: [(char, &str, &[u32]); 12] = [
     ('G', "gains", &[1, 2, 3, 4, 5, 6, 7, 8, 9, 10, 11, 15]),
     ('A', "gains vertex wcet", &[1, 2, 3, 4, 5, 6, 7, 8, 9, 10, 11, 15]),
     ('N', "second", &[1, 2, 3, 4, 5, 6, 7, 8, 9, 10, 11, 17]),
+    ('D', "yes no", &[1, 2, 3, 4, 5, 6, 7, 8, 9, 10, 11, 13, 14]),
     ('-', "bad", &[]),
 ];
 
@@ -35,6 +38,21 @@ const BOARDS: [(&str, fn(&Graph) -> bool); 5] = [
     ("all but one unused", |g| unused(g) > 1 && unused(g) + 1 == g.cores.len()),
     ("the most cores unused", |g| most_cores(g, |_| true) > most_cores(g, |s| g.is_used(s))),
     ("the most cores idle", |g| (1..most_cores(g, |s| g.is_used(s))).contains(&most_cores(g, |s| is_busy(g, s)))),
+];
+
+/// The ticks by which a run can be judged wrongly, each of which has to be asked for: of the finish, NEW-B-1's whole ticks and
+/// the tick itself. Where these are apart, what is played tells them apart too.
+const TICKS: [(&str, fn(u64, u64, u64) -> bool); 10] = [
+    ("0", |f, _, d| d == 0 && f > 0),
+    ("0 of no time", |f, b, d| d == 0 && f == 0 && b > 0),
+    ("before the finish", |f, b, d| d + 1 == f && f + 1 < b),
+    ("the finish", |f, b, d| d == f && f + 1 < b),
+    ("after the finish", |f, b, d| d == f + 1 && f + 1 < b),
+    ("before the bound", |f, b, d| d + 1 == b && f + 1 < b),
+    ("the bound", |f, b, d| d == b && f < b),
+    ("after the bound", |f, b, d| d == b + 1 && f < b),
+    ("the largest", |_, _, d| d == u32::MAX as u64),
+    ("inside 128,000,000", |f, _, d| f == 128_000_000 && (1..f).contains(&d)),
 ];
 
 fn is_busy(graph: &Graph, kind: usize) -> bool {
@@ -54,6 +72,7 @@ pub fn own_requests(options: &Options) -> bool {
     let stream = Stream::new(options.seed);
     let mut table: BTreeMap<(char, String), u64> = BTreeMap::new();
     let mut boards = [0; BOARDS.len()];
+    let mut ticks = [0; TICKS.len()];
     for place in 0..options.count {
         let request = stream.request(place);
         let cell = cell(&request);
@@ -61,12 +80,27 @@ pub fn own_requests(options: &Options) -> bool {
             let graph = read(request.first_list().unwrap()).unwrap();
             BOARDS.iter().zip(&mut boards).for_each(|((_, is), many)| *many += is(&graph) as u64);
         }
+        if ["yes", "no"].contains(&&cell.1[..]) {
+            let (file, times, d) = asked_late(&request).unwrap();
+            let graph = read(file).unwrap();
+            let (finish, bound) = (finish(&graph, &times).unwrap() as u64, bounds(&graph).ticks);
+            TICKS.iter().zip(&mut ticks).for_each(|((_, is), many)| *many += is(finish, bound, d as u64) as u64);
+        }
         *table.entry(cell).or_default() += 1;
     }
     print_table(&table);
     let asked: Vec<String> = BOARDS.iter().zip(boards).map(|((name, _), many)| format!("{name} {many}")).collect();
     println!("boards: {}", asked.join(", "));
+    let asked: Vec<String> = TICKS.iter().zip(ticks).map(|((name, _), many)| format!("{name} {many}")).collect();
+    println!("ticks: {}", asked.join(", "));
     let mut faults = missing_and_impossible(&table);
+    faults.extend(
+        TICKS
+            .iter()
+            .zip(ticks)
+            .filter(|(_, many)| *many == 0)
+            .map(|((name, _), _)| format!("no tick asked for is {name}")),
+    );
     faults.extend(
         BOARDS.iter().zip(boards).filter(|(_, many)| *many == 0).map(|((name, _), _)| format!("no board has {name}")),
     );

@@ -1,6 +1,6 @@
 //! The reference against itself by second ways: all complete paths written out, bounds as fractions, ancestors by who
 //! stands before whom on these paths, gains by the paths without a vertex's time, alterations in the file's own bytes,
-//! runs tick by tick, a planted fault for each number and each pair of them, and the values worked on paper.
+//! runs tick by tick, stopped at any, a planted fault for each number and each pair of them, and the values worked on paper.
 
 use crate::compare::hex;
 use crate::generate::altered;
@@ -11,7 +11,7 @@ use crate::generate::catalogue::{
     numbers_of_paths, parallel_to_two, two_sources, two_without_an_edge, type_of_one_core, unused_cores,
 };
 use crate::generate::faults::file_with;
-use crate::generate::graphs::{of, to_be_damaged, twins};
+use crate::generate::graphs::{chain, of, to_be_damaged, twins};
 use crate::generate::lists::{edge, file_of as file_of_records, lists_of, records_of};
 use crate::generate::random::Random;
 use crate::generate::runs::times;
@@ -19,7 +19,8 @@ use crate::generate::ways;
 use crate::options::Options;
 use crate::reference::bounds::{bounds, least_path, Bounds};
 use crate::reference::gains::{gains, gains_altered, gains_of, ranking, with_wcet};
-use crate::reference::graph::{Graph, MOST_CORES, MOST_WCET, PARTS_IN_A_TICK, RECORD};
+use crate::reference::graph::{Graph, MOST_CORES, MOST_VERTICES, MOST_WCET, PARTS_IN_A_TICK, RECORD};
+use crate::reference::late::{late, Late};
 use crate::reference::order::topological;
 use crate::reference::reader::read;
 use crate::reference::record::finished;
@@ -45,6 +46,7 @@ pub fn faults(options: &Options) -> Vec<String> {
     let mut faults = worked_on_paper();
     faults.extend(gains_on_paper());
     faults.extend(second_on_paper());
+    faults.extend(late_on_paper());
     faults.extend(paths_counted());
     for place in 0..2_000 {
         let random = &mut Random::new(options.seed ^ 0x5E1F, place);
@@ -56,7 +58,8 @@ pub fn faults(options: &Options) -> Vec<String> {
             && second_agrees(&graph)
             && gains_agree(&graph)
             && alteration_agrees(random, &graph)
-            && runs_agree(random, &graph);
+            && runs_agree(random, &graph)
+            && late_agrees(random, &graph);
         if !same {
             faults.push(format!("two ways of the reference differ on {graph:?}"));
         }
@@ -259,6 +262,24 @@ fn finishes_agree(graph: &Graph, times: &[u32], finishes: Vec<Option<u32>>) -> b
     run(graph, times, 128) == Ok(finishes) && spans(graph, times).iter().all(|span| span.end <= bound)
 }
 
+/// A run stopped at a tick, at each tick up to the bound and past it: yes exactly where the record that has been played is done,
+/// and played is by how much it has advanced. From the bound on nothing has to be played: the run was done.
+fn late_agrees(random: &mut Random, graph: &Graph) -> bool {
+    let times = times(random, graph);
+    let bound = bounds(graph).ticks;
+    let mut record = start(graph, &times).unwrap();
+    for d in 0..bound + 3 {
+        let (ticked, next) = tick(graph, &record).unwrap();
+        let yes = ticked == Ticked::Done;
+        let played = if d < bound { record.instant } else { 0 };
+        if late(graph, &times, d as u32) != Ok(Late { yes, played }) || d >= bound && !yes {
+            return false;
+        }
+        record = next;
+    }
+    late(graph, &times, u32::MAX) == Ok(Late { yes: true, played: 0 })
+}
+
 /// The cases of document 01, order 2's own, the examples of document 000, and the samples.
 fn worked_on_paper() -> Vec<String> {
     let mut faults = Vec::new();
@@ -323,6 +344,63 @@ fn worked_on_paper() -> Vec<String> {
     }
     expect("the sample of case A", SAMPLES[0].0 == file(&a));
     SAMPLES.iter().for_each(|(bytes, text)| expect("a sample's sheet", sheet(bytes) == *text));
+    faults
+}
+
+/// docs/orders/05.md works these out.
+fn late_on_paper() -> Vec<String> {
+    let graph = |lists: &Lists| read(&file_of_records(&records_of(lists))).unwrap();
+    let (a, d, f) = (graph(&case_a()), graph(&case_d()), graph(&case_f()));
+    let (full, none, e) = ([4, 9, 6, 3], [0; 4], [0, 2, 2, 5, 1, 6, 0]);
+    let (longest, most) = (chain(MOST_VERTICES, 1, MOST_WCET), [MOST_WCET; MOST_VERTICES]);
+    let worked: [(&str, &Graph, &[u32], u32, bool, u64); 29] = [
+        ("A", &a, &full, 0, false, 0),
+        ("A", &a, &full, 15, false, 15),
+        ("A", &a, &full, 16, true, 16),
+        ("A", &a, &full, 17, true, 16),
+        ("A", &a, &full, 18, true, 16),
+        ("A", &a, &full, 19, true, 0),
+        ("A", &a, &full, u32::MAX, true, 0),
+        ("A of no time", &a, &none, 0, true, 0),
+        ("A of no time", &a, &none, 18, true, 0),
+        ("D", &d, &d.wcets, 8, false, 8),
+        ("D", &d, &d.wcets, 9, true, 9),
+        ("D", &d, &d.wcets, 10, true, 9),
+        ("D", &d, &d.wcets, 13, true, 9),
+        ("D", &d, &d.wcets, 16, true, 9),
+        ("D", &d, &d.wcets, 17, true, 0),
+        ("E", &d, &e, 8, false, 8),
+        ("E", &d, &e, 9, false, 9),
+        ("E", &d, &e, 10, false, 10),
+        ("E", &d, &e, 13, false, 13),
+        ("E", &d, &e, 14, true, 14),
+        ("E", &d, &e, 16, true, 14),
+        ("E", &d, &e, 17, true, 0),
+        ("F", &f, &[0], 0, true, 0),
+        ("F", &f, &[0], u32::MAX, true, 0),
+        ("the longest run", &longest, &most, 1, false, 1),
+        ("the longest run", &longest, &most, 64_000_000, false, 64_000_000),
+        ("the longest run", &longest, &most, 64_500_001, false, 64_500_001),
+        ("the longest run", &longest, &most, 127_999_999, false, 127_999_999),
+        ("the longest run", &longest, &most, 128_000_000, true, 0),
+    ];
+    let refused: [(&str, &[u32], u32, usize); 4] = [
+        ("L", &[4, 10, 6, 3], 14, 1),
+        ("A, two times too long", &[4, 9, 7, 4], 14, 2),
+        ("A, three times", &[4, 10, 6], 13, 0),
+        ("A, no times", &[], 13, 0),
+    ];
+    let mut faults = Vec::new();
+    for (name, graph, times, d, yes, played) in worked {
+        if late(graph, times, d) != Ok(Late { yes, played }) {
+            faults.push(format!("{name} by tick {d} has another outcome than on paper"));
+        }
+    }
+    for (name, times, number, place) in refused {
+        if [0, 19, u32::MAX].iter().any(|&d| late(&a, times, d) != Err(Refusal { number, place })) {
+            faults.push(format!("{name}: another refusal than on paper"));
+        }
+    }
     faults
 }
 

@@ -14,12 +14,14 @@
 //!   gains     what a rewrite of each vertex would gain, and their ranking
 //!   record    the run record, and which of them suit a graph (16)
 //!   schedule  start, tick, whole run
+//!   late      whether a run ends by a tick, and the ticks played to tell
 //!   sheet     the program's text
 
 pub mod bounds;
 pub mod gains;
 pub mod graph;
 pub mod judge;
+pub mod late;
 pub mod order;
 pub mod reader;
 pub mod record;

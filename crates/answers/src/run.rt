@@ -6,7 +6,7 @@ use graph::Refusal;
 use schedule::Played;
 
 // The argument that names the times.
-const TIMES: usize = 3;
+pub(crate) const TIMES: usize = 3;
 
 // So many times, and where in their text each one starts and ends. A graph has 128 stages at most: of more times only that there are more matters.
 pub(crate) struct Times {
@@ -17,7 +17,7 @@ pub(crate) struct Times {
 }
 
 // What the text of times has wrong where they are refused.
-fn reason(said: &[u8], times: Times, stages: usize, r: Refusal) -> bool {
+pub(crate) fn reason(said: &[u8], times: Times, stages: usize, r: Refusal) -> bool {
     if r.number != 14 {
         return reasons::fault::counted(TIMES, times.n, stages);
     }
@@ -25,7 +25,7 @@ fn reason(said: &[u8], times: Times, stages: usize, r: Refusal) -> bool {
     reasons::fault::said(TIMES, said, faults::TIME, times.start[v], times.end[v])
 }
 
-fn front(list: &[u32], n: usize) -> &[u32] {
+pub(crate) fn front(list: &[u32], n: usize) -> &[u32] {
     if n <= list.len() { &list[..n] } else { list }
 }
 

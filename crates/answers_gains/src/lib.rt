@@ -6,6 +6,7 @@ use board::Names;
 use gains::Gained;
 use graph::Graph;
 use graph::Refusal;
+use input::word;
 
 // The arguments that name the stage and its new WCET.
 const STAGE: usize = 3;
@@ -29,27 +30,9 @@ pub fn full(t: &[u8], names: Names, g: Graph) -> u8
     listed(t, names, &gain, g.n)
 }
 
-// Whether an argument is one word, or nothing: only such a one can be a name or a number.
-fn is_one(w: &[u8]) -> bool {
-    texts::until(w, 0, texts::END) == w.len()
-}
-
-// What is wrong with an argument as a number of 32 bits.
-fn fault(w: &[u8]) -> usize {
-    if !is_one(w) {
-        return faults::NO_NUMBER;
-    }
-    let f = faults::of_number(w, 0, 4294967295);
-    f.row
-}
-
-fn number(w: &[u8]) -> u32 {
-    (texts::number(w, 0) % 4294967296) as u32
-}
-
 // Which stage of the board text is called so; as many as it has where none is.
 fn called(t: &[u8], names: Names, w: &[u8]) -> usize {
-    if !is_one(w) {
+    if !word::is_one(w) {
         return names.stages;
     }
     let list = names.stage;
@@ -66,7 +49,7 @@ struct Named {
 // that could be a name, and is none of the board text's, is one past the last.
 fn stage_of(t: &[u8], names: Names, w: &[u8]) -> Named {
     let v = called(t, names, w);
-    let row = fault(w);
+    let row = word::fault(w);
     if (v < names.stages) | ((row == faults::NO_NUMBER) & (names.stages > 0)) {
         return Named {
             row: faults::FINE,
@@ -75,7 +58,7 @@ fn stage_of(t: &[u8], names: Names, w: &[u8]) -> Named {
     }
     Named {
         row,
-        vertex: number(w),
+        vertex: word::number(w),
     }
 }
 
@@ -111,12 +94,12 @@ fn with_words(t: &[u8], names: Names, g: Graph, file: &[u8], stage: &[u8], wcet:
         let said = reasons::fault::said_argument(b"STAGE", v.row, stage);
         return input::status(said, input::NO);
     }
-    let row = fault(wcet);
+    let row = word::fault(wcet);
     if row != faults::FINE {
         let said = reasons::fault::said_argument(b"WCET", row, wcet);
         return input::status(said, input::NO);
     }
-    answer(t, names, file, g.n, stage, v.vertex, number(wcet))
+    answer(t, names, file, g.n, stage, v.vertex, word::number(wcet))
 }
 
 // The gains with the WCET of one stage altered.

@@ -25,7 +25,9 @@ use Rattle.schedule.specs.Whole.{playOf, finishesOf}
 use Rattle.schedule.specs.declared.Started.{Started}
 use Rattle.schedule.specs.declared.Played.{Played}
 use Rattle.codes.specs.Coded.{codedGraph, codedWrote, BoundsCoded, SecondCoded, PathCoded, GainsCoded, AlteredCoded}
-use Rattle.codes.specs.CodedRun.{codedStart, codedReport, codedTick, codedPlay}
+use Rattle.late.specs.Answers.{LateOf}
+use Rattle.late.specs.declared.Lateness.{Lateness}
+use Rattle.codes.specs.CodedRun.{codedStart, codedReport, codedTick, codedPlay, LateCoded}
 use Rattle.codes.specs.declared.PlannerGraph.{PlannerGraph}
 use Rattle.codes.specs.declared.PlannerCount.{PlannerCount}
 use Rattle.codes.specs.declared.PlannerBounds.{PlannerBounds}
@@ -34,7 +36,8 @@ use Rattle.codes.specs.declared.PlannerRun.{PlannerRun}
 use Rattle.codes.specs.declared.PlannerMoved.{PlannerMoved}
 use Rattle.codes.specs.declared.PlannerTick.{PlannerTick}
 use Rattle.codes.specs.declared.PlannerFinish.{PlannerFinish}
-use Rattle.claims.specs.Entries.{ReadGives, WriteGives, BoundsGives, SecondGives, PathGives, GainsGives, AlteredGives, StartGives, TickGives, TickInPlaceGives, RunGives, PlannerReadGives, PlannerWriteGives, PlannerBoundsGives, PlannerSecondGives, PlannerPathGives, PlannerGainsGives, PlannerAlteredGives, PlannerStartGives, PlannerTickGives, PlannerTickInPlaceGives, PlannerRunGives}
+use Rattle.codes.specs.declared.PlannerLate.{PlannerLate}
+use Rattle.claims.specs.Entries.{ReadGives, WriteGives, BoundsGives, SecondGives, PathGives, GainsGives, AlteredGives, StartGives, TickGives, TickInPlaceGives, RunGives, LateGives, PlannerReadGives, PlannerWriteGives, PlannerBoundsGives, PlannerSecondGives, PlannerPathGives, PlannerGainsGives, PlannerAlteredGives, PlannerStartGives, PlannerTickGives, PlannerTickInPlaceGives, PlannerRunGives, PlannerLateGives}
 
 pub read-given : {s : List ℕ} {t : Taken} → ReadGives s t → t ≡ readOf s
 read-given h = sym (h .as-seen .1) ∙ h .ensured ∙ ap readOf (h .as-seen .0)
@@ -116,3 +119,9 @@ planner-tick-in-place-given h = let i = h .as-seen in rw (← i .0, ← i .1, �
 pub planner-run-given : {s e old new : List ℕ} {p : PlannerFinish} → PlannerRunGives s e old p new
     → (p ≡ codedPlay (playOf s e (length old))) × (new ≡ finishesOf s e old)
 planner-run-given h = let i = h .as-seen in rw (← i .0, ← i .1, ← i .2, ← i .3, ← i .4) (h .ensured)
+
+pub late-given : {s e : List ℕ} {d : ℕ} {r : Lateness} → LateGives s e d r → LateOf s e d r
+late-given h = let i = h .as-seen in rw (← i .0, ← i .1, ← i .2, ← i .3) (h .ensured)
+
+pub planner-late-given : {s e : List ℕ} {d : ℕ} {r : PlannerLate} → PlannerLateGives s e d r → LateCoded s e d r
+planner-late-given h = let i = h .as-seen in rw (← i .0, ← i .1, ← i .2, ← i .3) (h .ensured)

@@ -9,6 +9,7 @@ pub mod Order1
 pub mod Order2
 pub mod Order3
 pub mod Order4
+pub mod Order5
 pub mod Order6
 -- What they cite of this crate.
 pub mod Entries

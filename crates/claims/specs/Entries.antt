@@ -12,6 +12,7 @@
 --   TickGives s r t                  `tick`: what the record r becomes
 --   TickInPlaceGives s r x r′        `tick_in_place`: the report, and the caller's record from r to r′
 --   RunGives s e old p new           `run`: the answer for the file s and the times e, and the lent list from old to new
+--   LateGives s e d r                `late`: the answer for the file s, the times e and the tick d
 --   PlannerReadGives s r, ..         the same of the entries for C and Rust
 --
 -- Of functions inside, which rest on what their `requires` says:
@@ -20,11 +21,13 @@
 --                                    weights w
 --   RenewedGives .. w old v r        the summary r that old is brought up to date to, where w differs in the weight of v
 --   RankingGives gain n l            the ranking l by the gains of n vertices
+--   UntilGives g st run d x          the record x of a run of the graph g up to tick d, from the record `run`
 use mathlib.Core.Path.{_≡_}
 use mathlib.Core.List.{List}
 use Prim.Native.Nat.{ℕ}
 use denote.Ref.{now}
 use Rattle.outcome.specs.Allows.{Allows}
+use Rattle.graph.specs.declared.Graph.{Graph}
 use Rattle.graph.specs.declared.Taken.{Taken}
 use Rattle.reader.proofs.read as read
 use Rattle.reader.proofs.read.Reads as read-reads
@@ -66,6 +69,11 @@ use Rattle.schedule.proofs.tick_in_place as tick-in-place
 use Rattle.schedule.proofs.run as run
 use Rattle.schedule.proofs.run.Reads as run-reads
 use Rattle.schedule.proofs.Outcomes.{tick-in-place-stated}
+use Rattle.leaps.proofs.until as until
+use Rattle.leaps.proofs.until.Reads as until-reads
+use Rattle.late.specs.declared.Lateness.{Lateness}
+use Rattle.late.proofs.late as late
+use Rattle.late.proofs.late.Reads as late-reads
 use Rattle.codes.specs.declared.PlannerGraph.{PlannerGraph}
 use Rattle.codes.specs.declared.PlannerCount.{PlannerCount}
 use Rattle.codes.specs.declared.PlannerBounds.{PlannerBounds}
@@ -74,6 +82,7 @@ use Rattle.codes.specs.declared.PlannerRun.{PlannerRun}
 use Rattle.codes.specs.declared.PlannerMoved.{PlannerMoved}
 use Rattle.codes.specs.declared.PlannerTick.{PlannerTick}
 use Rattle.codes.specs.declared.PlannerFinish.{PlannerFinish}
+use Rattle.codes.specs.declared.PlannerLate.{PlannerLate}
 use Rattle.planner.proofs.planner_read as planner-read
 use Rattle.planner.proofs.planner_read.Reads as planner-read-reads
 use Rattle.planner.proofs.planner_write as planner-write
@@ -95,6 +104,8 @@ use Rattle.planner.proofs.planner_tick.Reads as planner-tick-reads
 use Rattle.planner.proofs.planner_tick_in_place as planner-tick-in-place
 use Rattle.planner.proofs.planner_run as planner-run
 use Rattle.planner.proofs.planner_run.Reads as planner-run-reads
+use Rattle.planner.proofs.planner_late as planner-late
+use Rattle.planner.proofs.planner_late.Reads as planner-late-reads
 use Rattle.planner.proofs.Outcomes.{planner-tick-in-place-stated}
 
 abbrev pub ReadGives : List ℕ → Taken → Type 0
@@ -138,6 +149,9 @@ abbrev pub RunGives : List ℕ → List ℕ → List ℕ → Played → List ℕ
 RunGives s e old p new =
     Allows run.ended run-reads.Post (λ κs a r w. (now (a .0) ≡ s) × (now (a .1 .0) ≡ e) × (now (a .1 .1 .0) ≡ old) × (r ≡ p) × (now (w .1 .1 .0) ≡ new))
 
+abbrev pub LateGives : List ℕ → List ℕ → ℕ → Lateness → Type 0
+LateGives s e d r = Allows late.ended late-reads.Post (λ κs a x w. (now (a .0) ≡ s) × (now (a .1 .0) ≡ e) × (a .1 .1 .0 ≡ d) × (x ≡ r))
+
 -- ---- inside
 
 abbrev pub AfreshGives : List ℕ → List ℕ → List ℕ → ℕ → List ℕ → Summary → Type 0
@@ -153,6 +167,11 @@ RenewedGives e st o n w old v r =
 abbrev pub RankingGives : List ℕ → ℕ → List ℕ → Type 0
 RankingGives gain n l =
     Allows ranking.ended (λ κs a x e. ranking-reads.Pre κs a × ranking-reads.Post κs a x e) (λ κs a x e. (now (a .0) ≡ gain) × (a .1 .0 ≡ n) × (x ≡ l))
+
+abbrev pub UntilGives : Graph → List ℕ → Run → ℕ → Run → Type 0
+UntilGives g st run d x =
+    Allows until.ended (λ κs a y w. until-reads.Pre κs a × until-reads.Post κs a y w)
+    (λ κs a y w. (a .0 ≡ g) × (now (a .1 .0) ≡ st) × (a .1 .1 .0 ≡ run) × (a .1 .1 .1 .0 ≡ d) × (y ≡ x))
 
 -- ---- for C and Rust
 
@@ -199,3 +218,7 @@ abbrev pub PlannerRunGives : List ℕ → List ℕ → List ℕ → PlannerFinis
 PlannerRunGives s e old p new =
     Allows planner-run.ended planner-run-reads.Post
     (λ κs a r w. (now (a .0) ≡ s) × (now (a .1 .0) ≡ e) × (now (a .1 .1 .0) ≡ old) × (r ≡ p) × (now (w .1 .1 .0) ≡ new))
+
+abbrev pub PlannerLateGives : List ℕ → List ℕ → ℕ → PlannerLate → Type 0
+PlannerLateGives s e d r =
+    Allows planner-late.ended planner-late-reads.Post (λ κs a x w. (now (a .0) ≡ s) × (now (a .1 .0) ≡ e) × (a .1 .1 .0 ≡ d) × (x ≡ r))

@@ -13,6 +13,8 @@ use Rattle.codes.proofs.coded_gains as coded-gains
 use Rattle.codes.proofs.coded_gains.Reads as coded-gains-reads
 use Rattle.codes.proofs.coded_path as coded-path
 use Rattle.codes.proofs.coded_path.Reads as coded-path-reads
+use Rattle.codes.proofs.coded_late as coded-late
+use Rattle.codes.proofs.coded_late.Reads as coded-late-reads
 use Rattle.codes.proofs.coded_start as coded-start
 use Rattle.codes.proofs.coded_start.Reads as coded-start-reads
 use Rattle.codes.proofs.coded_report as coded-report
@@ -39,6 +41,9 @@ coded-gains-one κs a r r′ ws ws′ pre p q = (p ∙ sym q, refl)
 
 pub coded-path-one : OneOutcome coded-path.ended coded-path-reads.Pre coded-path-reads.Post
 coded-path-one κs a r r′ ws ws′ pre p q = (p ∙ sym q, refl)
+
+pub coded-late-one : OneOutcome coded-late.ended coded-late-reads.Pre coded-late-reads.Post
+coded-late-one κs a r r′ ws ws′ pre p q = (p ∙ sym q, refl)
 
 pub coded-start-one : OneOutcome coded-start.ended coded-start-reads.Pre coded-start-reads.Post
 coded-start-one κs a r r′ ws ws′ pre p q = (p ∙ sym q, refl)

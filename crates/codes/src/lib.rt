@@ -1,15 +1,17 @@
 // The answers as C sees them: numbers, and structs laid out as C lays them out. An answer begins with `number` and `place`: number 0 is no
 // refusal.
 ghost use mathlib.Core.Path.{_≡_};
+ghost use Rattle.model.specs.Places.{bit};
 ghost use Rattle.graph.specs.Said.{ofAnswer};
 ghost use Rattle.codes.specs.Coded.{codedGraph, codedWrote, codedPath, codedGains, codedBounds, codedSecond};
-ghost use Rattle.codes.specs.CodedRun.{codedStart, codedReport, codedTick, codedPlay};
+ghost use Rattle.codes.specs.CodedRun.{codedStart, codedReport, codedTick, codedPlay, codedLate};
 use bounds::Bounded;
 use bounds::Pathed;
 use gains::Gained;
 use graph::Answer;
 use graph::Graph;
 use graph::Taken;
+use late::Lateness;
 use schedule::Played;
 use schedule::Started;
 use second::Seconded;
@@ -83,6 +85,15 @@ pub struct PlannerFinish {
     pub number: u32,
     pub place: u32,
     pub finish: u64,
+}
+
+// Whether a run ends by a tick, 1 or 0, and how many ticks of it were played; both 0 beside a refusal.
+#[repr(C)]
+pub struct PlannerLate {
+    pub number: u32,
+    pub place: u32,
+    pub yes: u64,
+    pub played: u64,
 }
 
 fn number(answer: Answer) -> u32
@@ -235,6 +246,24 @@ pub fn coded_tick(ticked: Ticked) -> PlannerTick
         place: said.place,
         moved: said.moved,
         run,
+    }
+}
+
+fn one(on: bool) -> u64
+    ensures { λ r. ⌜ r ≡ bit on ⌝ }
+{
+    if on { 1 } else { 0 }
+}
+
+pub fn coded_late(lateness: Lateness) -> PlannerLate
+    ensures { λ r. ⌜ r ≡ codedLate lateness ⌝ }
+{
+    let answer = lateness.answer;
+    PlannerLate {
+        number: number(answer),
+        place: place(answer),
+        yes: one(lateness.yes),
+        played: lateness.played.0,
     }
 }
 

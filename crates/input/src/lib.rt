@@ -2,6 +2,7 @@
 // read, whether it can be, and whether what is said is taken, is the system's to say: no contract can.
 pub mod given;
 mod net;
+pub mod word;
 
 // The exit status: an answer, a no of the planner, trouble.
 pub const ANSWER: u8 = 0;

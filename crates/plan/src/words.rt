@@ -18,13 +18,15 @@ const GAINS: u8 = 5;
 
 const GAINS_ALTERED: u8 = 6;
 
-const HELP: u8 = 7;
+const LATE: u8 = 7;
 
-const VERSION: u8 = 8;
+const HELP: u8 = 8;
 
-const FILE: u8 = 9;
+const VERSION: u8 = 9;
 
-const UNKNOWN: u8 = 10;
+const FILE: u8 = 10;
+
+const UNKNOWN: u8 = 11;
 
 // Which word stands first, where there are as many arguments as it takes, the command's own name among them.
 fn number(word: &[u8], n: usize) -> u8 {
@@ -54,6 +56,9 @@ fn number(word: &[u8], n: usize) -> u8 {
         } else {
             UNKNOWN
         };
+    }
+    if texts::equal(word, b"late") {
+        return if n == 5 { LATE } else { UNKNOWN };
     }
     if n != 2 {
         return UNKNOWN;
@@ -88,6 +93,7 @@ fn answered(word: u8, t: &[u8], names: Names, g: Graph, file: &[u8]) -> u8
         4 => answers::text::answer(t, names, g),
         5 => answers_gains::full(t, names, g),
         6 => answers_gains::altered(t, names, g, file),
+        7 => answers::by_tick::timed(t, names, g, file),
         _ => answers::sheet::answer(t, names, g),
     }
 }
@@ -136,7 +142,7 @@ fn row(word: u8) -> u8 {
     if word == VERSION {
         return input::status(say::help::version(), input::ANSWER);
     }
-    if (word == RUN_TIMED) & input::is_standard(2) & input::is_standard(3) {
+    if ((word == RUN_TIMED) | (word == LATE)) & input::is_standard(2) & input::is_standard(3) {
         return input::wrong(b"standard input can't be the graph and the times");
     }
     read(word, if word == FILE { 1 } else { 2 })

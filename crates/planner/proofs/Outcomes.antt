@@ -7,13 +7,15 @@ use Rattle.outcome.specs.OneOutcome.{OneOutcome}
 use Rattle.outcome.specs.Stated.{Stated}
 use Rattle.bounds.proofs.Unique.{bounds-unique, path-of-unique}
 use Rattle.second.proofs.Unique.{second-of-unique}
+use Rattle.late.proofs.Unique.{late-unique}
 use Rattle.gains.proofs.Unique.{gains-of-unique, altered-of-unique}
 use Rattle.schedule.specs.Tick.{tickOf}
 use Rattle.codes.specs.Coded.{codedBounds, codedSecond, codedPath, codedGains, BoundsCoded, SecondCoded, PathCoded, GainsCoded, AlteredCoded}
-use Rattle.codes.specs.CodedRun.{codedReport}
+use Rattle.codes.specs.CodedRun.{codedReport, codedLate, LateCoded}
 use Rattle.codes.specs.declared.PlannerBounds.{PlannerBounds}
 use Rattle.codes.specs.declared.PlannerSecond.{PlannerSecond}
 use Rattle.codes.specs.declared.PlannerCount.{PlannerCount}
+use Rattle.codes.specs.declared.PlannerLate.{PlannerLate}
 use Rattle.planner.proofs.planner_read as read
 use Rattle.planner.proofs.planner_read.Reads as read-reads
 use Rattle.planner.proofs.planner_write as write
@@ -28,6 +30,8 @@ use Rattle.planner.proofs.planner_gains as gains
 use Rattle.planner.proofs.planner_gains.Reads as gains-reads
 use Rattle.planner.proofs.planner_gains_altered as gains-altered
 use Rattle.planner.proofs.planner_gains_altered.Reads as gains-altered-reads
+use Rattle.planner.proofs.planner_late as late
+use Rattle.planner.proofs.planner_late.Reads as late-reads
 use Rattle.planner.proofs.planner_start as start
 use Rattle.planner.proofs.planner_start.Reads as start-reads
 use Rattle.planner.proofs.planner_tick as tick
@@ -75,6 +79,12 @@ altered-coded-unique p q = let e = altered-of-unique (p .of) (q .of) in (p .code
 
 pub planner-gains-altered-one : OneOutcome gains-altered.ended gains-altered-reads.Pre gains-altered-reads.Post
 planner-gains-altered-one κs a r r′ ws ws′ pre p q = let e = altered-coded-unique p q in (e .0, λ i. (tt, (tt, (tt, (e .1 i, tt)))))
+
+late-coded-unique : {s e : List ℕ} {d : ℕ} {r r′ : PlannerLate} → LateCoded s e d r → LateCoded s e d r′ → r ≡ r′
+late-coded-unique p q = p .coded ∙ ap codedLate (late-unique _ _ _ (p .told) (q .told) (p .of) (q .of)) ∙ sym (q .coded)
+
+pub planner-late-one : OneOutcome late.ended late-reads.Pre late-reads.Post
+planner-late-one κs a r r′ ws ws′ pre p q = (late-coded-unique p q, refl)
 
 pub planner-start-one : OneOutcome start.ended start-reads.Pre start-reads.Post
 planner-start-one κs a r r′ ws ws′ pre p q = (p ∙ sym q, refl)

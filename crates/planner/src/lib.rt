@@ -9,12 +9,13 @@ ghost use Rattle.schedule.specs.Start.{startOf};
 ghost use Rattle.schedule.specs.Tick.{tickOf};
 ghost use Rattle.schedule.specs.Whole.{playOf, finishesOf};
 ghost use Rattle.codes.specs.Coded.{codedGraph, codedWrote, BoundsCoded, SecondCoded, PathCoded, GainsCoded, AlteredCoded};
-ghost use Rattle.codes.specs.CodedRun.{codedStart, codedReport, codedTick, codedPlay};
+ghost use Rattle.codes.specs.CodedRun.{codedStart, codedReport, codedTick, codedPlay, LateCoded};
 ghost use Rattle.planner.specs.Stepped.{codedStep};
 use codes::PlannerBounds;
 use codes::PlannerCount;
 use codes::PlannerFinish;
 use codes::PlannerGraph;
+use codes::PlannerLate;
 use codes::PlannerMoved;
 use codes::PlannerRun;
 use codes::PlannerSecond;
@@ -22,6 +23,7 @@ use codes::PlannerTick;
 use codes::coded_bounds;
 use codes::coded_gains;
 use codes::coded_graph;
+use codes::coded_late;
 use codes::coded_path;
 use codes::coded_play;
 use codes::coded_report;
@@ -110,6 +112,13 @@ pub extern "C" fn planner_run(file: &[u8], times: &[u32], finishes: &mut [u32]) 
     ensures { λ r. ⌜ (r ≡ codedPlay (playOf (now (file .entry)) (now (times .entry)) (length (now (finishes .entry))))) × (now (finishes .exit) ≡ finishesOf (now (file .entry)) (now (times .entry)) (now (finishes .entry))) ⌝ }
 {
     coded_play(schedule::run(file, times, finishes))
+}
+
+#[no_mangle]
+pub extern "C" fn planner_late(file: &[u8], times: &[u32], d: u32) -> PlannerLate
+    ensures { λ r. ⌜ LateCoded (now (file .entry)) (now (times .entry)) d r ⌝ }
+{
+    coded_late(late::late(file, times, d))
 }
 
 // What the entry below stores, and what it hands back.

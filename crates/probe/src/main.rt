@@ -42,6 +42,7 @@ fn answer(letter: u8, p: &[u8]) {
         b'S' => probe_runs::start_request(p),
         b'T' => probe_runs::tick_request(p, false),
         b'I' => probe_runs::tick_request(p, true),
+        b'D' => probe_runs::late_request(p),
         b'X' => probe_runs::run_request(p),
         _ => print::bad(),
     }

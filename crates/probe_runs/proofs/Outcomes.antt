@@ -5,6 +5,8 @@ use Rattle.probe_runs.proofs.start_request as start-request
 use Rattle.probe_runs.proofs.start_request.Reads as start-request-reads
 use Rattle.probe_runs.proofs.tick_request as tick-request
 use Rattle.probe_runs.proofs.tick_request.Reads as tick-request-reads
+use Rattle.probe_runs.proofs.late_request as late-request
+use Rattle.probe_runs.proofs.late_request.Reads as late-request-reads
 use Rattle.probe_runs.proofs.run_request as run-request
 use Rattle.probe_runs.proofs.run_request.Reads as run-request-reads
 
@@ -16,3 +18,6 @@ tick-request-one κs a r r′ ws ws′ pre p q = (refl, refl)
 
 pub run-request-one : OneOutcome run-request.ended run-request-reads.Pre run-request-reads.Post
 run-request-one κs a r r′ ws ws′ pre p q = (refl, refl)
+
+pub late-request-one : OneOutcome late-request.ended late-request-reads.Pre late-request-reads.Post
+late-request-one κs a r r′ ws ws′ pre p q = (refl, refl)

@@ -1,10 +1,12 @@
-// The letters S, T, I and X of the probe: a run started; one tick of a record, by value and in place; a whole run. Each takes a request's
+// The letters S, T, I, X and D of the probe: a run started; one tick of a record, by value and in place; a whole run; whether a run ends by a
+// tick. Each takes a request's
 // payload and prints the line that answers it. A run record travels as 544 bytes: n (8), instant (8), 128 remainders (4 each), two words
 // (8 each).
 ghost use mathlib.Core.Path.{_≡_};
 ghost use Prim.Native.Nat.{_≤_};
 ghost use lib.ListN.{length};
 use graph::Answer;
+use late::Lateness;
 use schedule::Played;
 use tick::Report;
 use tick::Run;
@@ -160,4 +162,53 @@ pub fn run_request(p: &[u8]) {
         &p[times_start..times_end],
         room.value as usize,
     )
+}
+
+// A refusal stands before what is beside it.
+fn told(r: Lateness) {
+    let answer = r.answer;
+    match answer {
+        Answer::Accepted => {}
+        Answer::Refused(no) => {
+            print::refused(no.number, no.place);
+            print::text(b" ")
+        }
+    }
+    if r.yes {
+        print::given(b"yes played", r.played.0);
+    } else {
+        print::given(b"no played", r.played.0);
+    }
+    print::text(b"\n")
+}
+
+fn late_with(file: &[u8], times: &[u8], d: u32) {
+    let mut words = [0u32; 16384];
+    let n = wire::words(times, &mut words);
+    told(late::late(file, &words[0..n], d))
+}
+
+// Times and a tick of 32 bits stand from a place on, and nothing else.
+fn late_from(p: &[u8], at: usize, file: &[u8]) {
+    let t = wire::list(p, at);
+    let d = wire::number(p, t.end);
+    if !(t.good & d.good & (d.end == p.len()) & ((t.end - t.start) % 4 == 0)) {
+        return print::bad();
+    }
+    if d.value > 4294967295 {
+        return print::bad();
+    }
+    let start = t.start;
+    let end = t.end;
+    late_with(file, &p[start..end], d.value as u32)
+}
+
+pub fn late_request(p: &[u8]) {
+    let f = wire::list(p, 0);
+    if !f.good {
+        return print::bad();
+    }
+    let start = f.start;
+    let end = f.end;
+    late_from(p, end, &p[start..end])
 }

@@ -11,6 +11,8 @@ pub fn page() -> bool {
                          what a rewrite of each stage would gain, in parts of
                          a tick and in whole ticks, the largest gain first
   plan run FILE [TIMES]  a run: its finish, and each stage's finish instant
+  plan late FILE TIMES D whether such a run ends by tick D, yes or no, and how
+                         many ticks of it were played to see that
   plan graph FILE        the graph file of a board text
   plan text FILE         the board text of a graph file
   plan help              this page
@@ -24,8 +26,8 @@ lines NAME TICKS, or of a number for each stage; without it each stage takes
 its WCET.
 
 Exit status: 0 an answer; 1 the planner says no, and standard output says why:
-the graph is refused, or a text or an argument is at fault; 2 trouble, and
-standard error says which.
+the graph is refused, a run is late, or a text or an argument is at fault;
+2 trouble, and standard error says which.
 ",
     )
 }

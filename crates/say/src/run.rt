@@ -18,3 +18,13 @@ pub fn lines(t: &[u8], of: Names, finish: u64, instants: &[u32]) -> bool {
     }
     written
 }
+
+// Whether it ends by a tick, and the ticks played.
+pub fn late(yes: bool, played: u64) -> bool {
+    let word = if yes {
+        out::text(b"yes played")
+    } else {
+        out::text(b"no played")
+    };
+    word & out::field(played) & out::end()
+}
