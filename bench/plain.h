@@ -1,4 +1,4 @@
-/* The planner's work in plain C, to be timed beside the proved one: no proofs, arrays on the stack, the refusals 1 to 17. */
+/* The planner's work in plain C, to be timed beside the proved one: no proofs, arrays on the stack, the refusals 1 to 22. */
 #ifndef PLAIN_H
 #define PLAIN_H
 
@@ -69,5 +69,7 @@ struct plain_count plain_gains(const uint8_t *file, size_t length, uint64_t *gai
 struct plain_count plain_gains_altered(const uint8_t *file, size_t length, uint32_t vertex, uint32_t wcet, uint64_t *gains, size_t room);
 struct plain_second plain_second(const uint8_t *file, size_t length);
 struct plain_late plain_late(const uint8_t *file, size_t length, const uint32_t *times, size_t count, uint32_t d);
+struct plain_finish plain_replay(const uint8_t *file, size_t length, const uint8_t *log, size_t log_length, uint32_t *times, size_t room);
+struct plain_count plain_log(const uint8_t *file, size_t length, const uint32_t *times, size_t count, uint8_t *log, size_t room);
 
 #endif

@@ -34,7 +34,7 @@
 #define PLANNER_MOST_VERTICES 128  /* there is one at least */
 #define PLANNER_MOST_EDGES 1024    /* there may be none */
 #define PLANNER_MOST_WCET 1000000  /* of a vertex, in ticks; it may be 0 */
-#define PLANNER_RECORD_LENGTH 8    /* of a file, in bytes */
+#define PLANNER_RECORD_LENGTH 8    /* of a file and of a log, in bytes */
 #define PLANNER_LONGEST_FILE 9296  /* so many types, vertices and edges, in bytes */
 
 /* In a run record the instant plus all that remains is at most this: 128 vertices at the largest WCET. No run finishes later. */
@@ -44,6 +44,10 @@
 
 /* Complete paths, from a source to a sink, of a graph that gets NEW-B-2. */
 #define PLANNER_MOST_PATHS 4096
+
+/* Of a log, in bytes: what is longer is refused. The log of a run has two records for each vertex at most. */
+#define PLANNER_LONGEST_LOG 65536
+#define PLANNER_LONGEST_RUN_LOG 2048
 
 /* The stack that a call needs, in bytes, with its answer and what it is handed by value: no call needs more than 16,384. Measured over the
    requests of tests/, which reach every limit and every refusal, and rounded up to pages of 4,096 bytes with 512 to spare at the least: no
@@ -61,6 +65,8 @@
 #define PLANNER_STACK_GAINS_ALTERED 16384
 #define PLANNER_STACK_SECOND 16384
 #define PLANNER_STACK_LATE 12288
+#define PLANNER_STACK_REPLAY 16384
+#define PLANNER_STACK_LOG 16384
 
 #ifdef __cplusplus
 #define PLANNER_SIZE(type, size) static_assert(sizeof(type) == (size), "the library lays " #type " out otherwise")
@@ -214,6 +220,23 @@ PlannerSecond planner_second(const uint8_t *file, size_t file_length);
    after them, and otherwise the smaller of `d` and the finish. Any `d` will do, and what a call costs grows with neither `d` nor the times.
    Refuses with 1 to 11, then 13, then 14, as a start does. */
 PlannerLate planner_late(const uint8_t *file, size_t file_length, const uint32_t *times, size_t times_length, uint32_t d);
+
+/* Replays a recorded frame: takes a log of which vertex ran when, and puts each vertex's execution time, its total in the log, into `times`; one
+   that is absent took 0. `finish` is the frame's, in ticks. Accepts exactly the logs that are work-conserving schedules of the graph, ours or
+   another's: none that it accepts ends after the bounds. A log has records of 8 bytes and no header: byte 0 is 0x53 for a start or 0x50 for a
+   stop, byte 1 the vertex, bytes 2 and 3 zero, bytes 4 to 7 the instant, low byte first. They ascend strictly by instant, stops before starts,
+   then vertex. Refuses with 1 to 11, then 18 (the log is malformed; the place is 0 for a wrong length, else the first record at fault, else 0
+   where a vertex runs at the end), 19 (ran before a predecessor had finished; the place is the first start at fault), 20 (more at once than
+   cores; the same), 21 (a total above that vertex's WCET; the place is the vertex), 22 (a core idle while a ready vertex of its type waited;
+   the place is the first such instant), then 15 (`times` has fewer places than the graph has vertices). Each is looked for in the whole log
+   before the next. */
+PlannerFinish planner_replay(const uint8_t *file, size_t file_length, const uint8_t *log, size_t log_length, uint32_t *times,
+                             size_t times_length);
+
+/* The log of a run: what planner_replay takes, of the list schedule with these execution times, into `log`, and how many bytes it has: 16 for
+   each vertex that takes time, which starts once and stops once. Replayed, it gives these times and the run's finish. Refuses with 1 to 11,
+   then 13, then 14, as a start does, then 15 (`log` is shorter than the log). */
+PlannerCount planner_log(const uint8_t *file, size_t file_length, const uint32_t *times, size_t times_length, uint8_t *log, size_t log_length);
 
 #ifdef __cplusplus
 }

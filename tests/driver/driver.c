@@ -13,7 +13,7 @@ long write(int to, const void *bytes, size_t count);
 void *memcpy(void *to, const void *from, size_t count);
 void *memset(void *bytes, int value, size_t count);
 
-enum { LONGEST_PAYLOAD = 65536, LARGEST_ROOM = 16384, PRESET = 0xA5 };
+enum { LONGEST_PAYLOAD = 262144, LARGEST_ROOM = 32768, PRESET = 0xA5 };
 
 /* The line. */
 
@@ -357,6 +357,28 @@ static void letter_d(void)
     field(a.played);
 }
 
+static void letter_l(void)
+{
+    struct list file = take_list(1), log = take_list(1), times = take_room(4);
+    if (!all_taken())
+        return;
+    PlannerFinish a = planner_replay(file.at, file.length, log.at, log.length, times.at, times.length);
+    counted(a.number, a.place, "replayed", a.finish);
+    text(" :");
+    words(times.at, times.length);
+}
+
+static void letter_o(void)
+{
+    struct list file = take_list(1), times = take_list(4), log = take_room(1);
+    if (!all_taken())
+        return;
+    PlannerCount a = planner_log(file.at, file.length, times.at, times.length, log.at, log.length);
+    counted(a.number, a.place, "log", a.count);
+    text(" :");
+    bytes(log.at, log.length);
+}
+
 static struct letter {
     char letter;
     void (*answer)(void);
@@ -376,6 +398,8 @@ static struct letter {
     {'A', letter_a, "planner_gains_altered", PLANNER_STACK_GAINS_ALTERED, 0},
     {'N', letter_n, "planner_second", PLANNER_STACK_SECOND, 0},
     {'D', letter_d, "planner_late", PLANNER_STACK_LATE, 0},
+    {'L', letter_l, "planner_replay", PLANNER_STACK_REPLAY, 0},
+    {'O', letter_o, "planner_log", PLANNER_STACK_LOG, 0},
 };
 enum { LETTERS = sizeof letters / sizeof letters[0] };
 

@@ -1,12 +1,15 @@
 //! The requests that are asked for every seed: the worked cases, and every limit from both sides.
 
+use super::frames::{frames, written};
 use super::graphs::{chain, exactly};
 use super::late;
-use super::lists::{edge, file_of as file_of_records, lists_of, records_of};
+use super::lists::{edge, file_of as file_of_records, lists_of, records_of, Record};
+use super::logs::{conserving, cut, MOST_RECORDS};
 use super::random::Random;
 use super::request::{self, Request, LARGEST_ROOM, LONGEST_PAYLOAD};
 use super::ways;
-use crate::reference::graph::{Graph, LONGEST_FILE, MOST_VERTICES, MOST_WCET};
+use crate::reference::graph::{Graph, LONGEST_FILE, MOST_VERTICES, MOST_WCET, RECORD};
+use crate::reference::log::{bytes_of, events_of_run, START, STOP};
 use crate::reference::reader::read;
 use crate::reference::record::{RunRecord, LATEST};
 use crate::reference::schedule::{record_at, spans};
@@ -25,6 +28,11 @@ pub fn catalogue() -> Vec<Request> {
     requests.extend(alterations_of_refused_files());
     requests.extend(ends_of_small_runs());
     requests.extend(late_and_refused());
+    requests.extend(frames_on_paper());
+    requests.extend(logs_of_refused_files());
+    requests.extend(logs_one_step_away());
+    requests.extend(logs_at_the_limits());
+    requests.extend(logs_of_small_runs());
     for file in numbers_of_paths().iter().map(file_of) {
         requests.extend([request::bounds(&file), request::second(&file)]);
     }
@@ -115,6 +123,12 @@ pub fn two_sources() -> Lists {
     Lists { cores: vec![1, 2], kinds: vec![0, 0, 1], wcets: vec![3, 5, 2], edges: vec![edge(0, 2), edge(1, 2)] }
 }
 
+/// The graph of docs/orders/07.md: one type of two cores, three vertices without an edge between them, and one behind two of
+/// these.
+pub fn two_cores() -> Lists {
+    Lists { cores: vec![2], kinds: vec![0; 4], wcets: vec![4, 4, 4, 2], edges: vec![edge(0, 3), edge(1, 3)] }
+}
+
 fn worked_cases() -> Vec<Vec<u8>> {
     let altered = |change: &dyn Fn(&mut Lists)| {
         let mut lists = case_a();
@@ -139,6 +153,7 @@ fn worked_cases() -> Vec<Vec<u8>> {
         source_of_no_time(),
         parallel_to_two(),
         two_sources(),
+        two_cores(),
     ];
     cases.iter().map(|lists| file_of_records(&records_of(lists))).collect()
 }
@@ -246,6 +261,11 @@ fn questions_of(file: &[u8]) -> Vec<Request> {
         request::second(file),
         request::late(file, &times, 0),
         request::late(file, &times, u32::MAX as u64),
+        request::replay(file, &[], n),
+        request::replay(file, &[], n.saturating_sub(1)),
+        request::replay(file, &[0; 7], 0),
+        request::log(file, &times, 0),
+        request::log(file, &[], 0),
     ]
 }
 
@@ -258,6 +278,7 @@ fn questions_of_graph(graph: &Graph) -> Vec<Request> {
     requests.extend([-1, 0, 1].map(|more: isize| request::run(&file, &graph.wcets, n.saturating_add_signed(more))));
     requests.extend((0..n).step_by(n / 8 + 1).map(|v| request::gains_altered(&file, v as u64, MOST_WCET as u64, n)));
     requests.extend(ends_of(graph, &graph.wcets));
+    requests.extend(log_of(graph, &graph.wcets));
     requests.push(request::start(&file, &graph.wcets));
     requests.push(request::tick(&file, &middle));
     requests.push(request::tick_in_place(&file, &middle));
@@ -282,6 +303,14 @@ fn wide_requests() -> Vec<Request> {
         requests.push(request::run(&file, &[4, 9, 6, 3], room));
         requests.push(request::gains(&file, room));
         requests.push(request::gains_altered(&file, 1, 3, room));
+        requests.push(request::replay(&file, &written("S3@0 P3@3"), room));
+        requests.push(request::replay(&file, &[0; 7], room));
+        requests.push(request::log(&file, &[4, 9, 6, 3], room));
+        requests.push(request::log(&file, &[4, 9, 6], room));
+    }
+    for room in [1 << 16, 1 << 32, (1 << 32) + 4, (1 << 63) + 64, usize::MAX] {
+        requests.extend([&file[..], &[]].map(|file| request::replay(file, &[], room)));
+        requests.extend([&file[..], &[]].map(|file| request::log(file, &[4, 9, 6, 3], room)));
     }
     // in 32 bits and above them, of a good file and of none
     for number in [u32::MAX as u64, 1 << 32, (1 << 32) + 1, u64::MAX] {
@@ -299,6 +328,8 @@ fn wide_requests() -> Vec<Request> {
         let times = (LONGEST_PAYLOAD - 8 - file.len()) / 4 + longer;
         requests.push(request::start(&file, &vec![0; times]));
         requests.push(request::late(&file, &vec![0; times - 2], 0));
+        requests.push(request::replay(&file, &vec![0x53; LONGEST_PAYLOAD - 16 - file.len() + longer], 4));
+        requests.push(request::log(&file, &vec![0; times - 2], 4));
     }
     requests.extend([Request::of(0), Request::of(b'R'), Request::of(b'?'), request::read(&[])]);
     requests
@@ -418,6 +449,142 @@ fn late_and_refused() -> Vec<Request> {
         {
             requests.extend([&file, &cyclic].map(|file| request::late(file, times, d)));
         }
+    }
+    requests
+}
+
+/// The frames of docs/orders/07.md: with just room enough, and with less.
+fn frames_on_paper() -> Vec<Request> {
+    let mut requests = Vec::new();
+    for (_, lists, log) in frames() {
+        let (file, n) = (file_of_records(&records_of(&lists)), lists.kinds.len());
+        requests.extend([n, n + 1, n - 1, 0].map(|room| request::replay(&file, &log, room)));
+    }
+    requests
+}
+
+/// The file's own number comes first, whatever the log is, the times are and the room is.
+fn logs_of_refused_files() -> Vec<Request> {
+    let mut files: Vec<Vec<u8>> = broken_limits().iter().map(|lists| file_of_records(&records_of(lists))).collect();
+    files.extend(odd_lengths());
+    let mut cyclic = case_a();
+    cyclic.edges.push(edge(3, 0));
+    files.push(file_of_records(&records_of(&cyclic)));
+    let mut requests = Vec::new();
+    for file in files {
+        for log in ["", "S3@0 P3@3", "S0@0", "T0@0 T0@0", "S0@1 P0@2"] {
+            requests.extend([0, 4].map(|room| request::replay(&file, &written(log), room)));
+        }
+        requests.extend([0, 64].map(|room| request::log(&file, &[4, 10, 6, 3], room)));
+    }
+    requests
+}
+
+/// The log of the run, with both sides of the room that it needs, and its replay, with both sides of the room for the times.
+fn log_of(graph: &Graph, times: &[u32]) -> Vec<Request> {
+    let (file, n, log) = (file_of(graph), graph.vertices(), bytes_of(&events_of_run(graph, times)));
+    let around = |room: usize| [room.saturating_sub(1), room, room + 1];
+    let mut requests: Vec<Request> = around(log.len()).map(|room| request::log(&file, times, room)).to_vec();
+    requests.extend(around(n).map(|room| request::replay(&file, &log, room)));
+    requests
+}
+
+/// Of the worked cases and of some small runs: at full times, where every other vertex takes no time, and where none takes any.
+fn logs_of_small_runs() -> Vec<Request> {
+    let random = &mut Random::new(0, 7);
+    let cases = [case_a(), case_d(), case_f(), two_longest_paths(), two_sources(), two_without_an_edge(), two_cores()];
+    let mut graphs: Vec<Graph> = cases.iter().map(graph_of).collect();
+    graphs.extend((0..12).map(|_| exactly(random, 2, 7, 10)));
+    let mut requests = Vec::new();
+    for graph in graphs {
+        let n = graph.vertices();
+        let every_other = |odd: usize| (0..n).map(|v| if v % 2 == odd { 0 } else { graph.wcets[v] }).collect();
+        for times in [graph.wcets.clone(), every_other(0), every_other(1), vec![0; n]] {
+            requests.extend(log_of(&graph, &times));
+        }
+        let file = file_of(&graph);
+        let mut above = graph.wcets.clone();
+        above[n - 1] += 1;
+        for times in [&above[..], &graph.wcets[..n - 1], &[&graph.wcets[..], &[0]].concat()] {
+            requests.extend([0, 2 * RECORD * n].map(|room| request::log(&file, times, room)));
+        }
+    }
+    requests
+}
+
+/// Of a log that is accepted, each one that differs from it in one record: dropped, doubled, changed places with the next,
+/// a tick earlier or later, of the other kind or of none, of another vertex or of none, with a spare byte set.
+fn logs_one_step_away() -> Vec<Request> {
+    let random = &mut Random::new(0, 8);
+    let mut requests = Vec::new();
+    for (lists, words) in [
+        (case_a(), "S0@0 P0@4 S1@4 S2@4 P2@10 P1@13 S3@13 P3@16"),
+        (two_cores(), "S0@0 S1@0 P0@1 S2@1 P1@4 S0@4 P2@5 P0@7 S3@7 P3@9"),
+        (case_d(), "S1@0 S2@0 P2@2 S4@2 P1@3 P4@3 S3@3 S5@3 P3@8 P5@9"),
+    ] {
+        let (file, n) = (file_of_records(&records_of(&lists)), lists.kinds.len());
+        let log: Vec<Record> = written(words).chunks(RECORD).map(|r| r.try_into().unwrap()).collect();
+        for k in 0..log.len() {
+            requests.extend(changed(&log, k, n).iter().map(|log| request::replay(&file, &log.concat(), n)));
+        }
+    }
+    // and of the largest graph, at the begin, in the middle and at the end
+    let graph = exactly(random, 10, MOST_VERTICES, 1_024);
+    let events = conserving(random, &graph, &graph.wcets);
+    let log: Vec<Record> = events.iter().map(|event| event.record()).collect();
+    for k in [0, 1, log.len() / 2, log.len() - 2, log.len() - 1] {
+        let logs = changed(&log, k, MOST_VERTICES);
+        requests.extend(logs.iter().map(|log| request::replay(&file_of(&graph), &log.concat(), MOST_VERTICES)));
+    }
+    requests
+}
+
+fn changed(log: &[Record], k: usize, n: usize) -> Vec<Vec<Record>> {
+    let mut logs = vec![[&log[..k], &log[k + 1..]].concat(), [&log[..=k], &log[k..]].concat()];
+    let mut with = |change: &dyn Fn(&mut [Record])| {
+        let mut other = log.to_vec();
+        change(&mut other);
+        logs.push(other);
+    };
+    let instant = u32::from_le_bytes(log[k][4..].try_into().unwrap());
+    with(&|log| log.swap(k, (k + 1) % log.len()));
+    for other in [instant.wrapping_sub(1), instant + 1, 128_000_000, 128_000_001, u32::MAX] {
+        with(&|log| log[k][4..].copy_from_slice(&other.to_le_bytes()));
+    }
+    for (at, byte) in [(0, log[k][0] ^ START ^ STOP), (0, 0), (0, 0x54), (2, 1), (3, 128)] {
+        with(&|log| log[k][at] = byte);
+    }
+    for vertex in [(log[k][1] as usize + 1) % n, n, 128, 255] {
+        with(&|log| log[k][1] = vertex as u8);
+    }
+    logs
+}
+
+/// The longest log and longer ones; the longest run, also where it rests or stops too late.
+fn logs_at_the_limits() -> Vec<Request> {
+    let random = &mut Random::new(0, 9);
+    let mut requests = Vec::new();
+    for graph in [exactly(random, 10, MOST_VERTICES, 1_024), with_edges(chain(20, 3, 1_000), &[])] {
+        let file = file_of(&graph);
+        for records in [MOST_RECORDS, MOST_RECORDS + 2] {
+            let events = conserving(random, &graph, &graph.wcets);
+            let log = bytes_of(&cut(random, &graph, &events, records));
+            let spare = [&log[..], &log[..RECORD]].concat();
+            for length in [log.len() - RECORD, log.len() - 1, log.len(), log.len() + 1, log.len() + RECORD] {
+                requests.push(request::replay(&file, &spare[..length], graph.vertices()));
+            }
+        }
+    }
+    let longest = chain(MOST_VERTICES, 1, MOST_WCET);
+    let log = bytes_of(&events_of_run(&longest, &longest.wcets));
+    for (at, later) in [(0, 0), (0, 1), (254, 1), (255, 1), (255, 0x07_FF_FF_FF), (1, 1), (128, 1)] {
+        // each record from there on so much later
+        let mut late: Vec<Record> = log.chunks(RECORD).map(|r| r.try_into().unwrap()).collect();
+        for record in &mut late[at..] {
+            let instant = u32::from_le_bytes(record[4..].try_into().unwrap()) + later;
+            record[4..].copy_from_slice(&instant.to_le_bytes());
+        }
+        requests.push(request::replay(&file_of(&longest), &late.concat(), MOST_VERTICES));
     }
     requests
 }

@@ -63,6 +63,23 @@ pub fn exactly(random: &mut Random, kinds: usize, n: usize, edges: usize) -> Gra
     }
 }
 
+/// A source, a sink, and between them more vertices of one kind than it has cores; each has a WCET of 2 at least.
+pub fn fan(random: &mut Random) -> Graph {
+    let (cores, beside) = (random.between(1, 3), random.between(1, 6));
+    let n = cores + beside + 2;
+    let layout = (1..n - 1).flat_map(|p| [(0, p), (p, n - 1)]).collect();
+    let number = numbers(random, n);
+    let mut kinds = vec![0; n];
+    kinds[number[0] as usize] = 1;
+    kinds[number[n - 1] as usize] = 1;
+    Graph {
+        cores: vec![cores as u8, random.between(1, 2) as u8],
+        kinds,
+        wcets: (0..n).map(|_| random.between(2, 9) as u32).collect(),
+        edges: edges_between(&number, &layout),
+    }
+}
+
 /// One vertex behind the other, in the order of their numbers.
 pub fn chain(n: usize, cores: u8, wcet: u32) -> Graph {
     Graph {

@@ -6,12 +6,12 @@ use super::request::{Request, LARGEST_ROOM, LONGEST_PAYLOAD};
 /// A good request made bad, or, now and then, left good by chance.
 pub fn spoilt(random: &mut Random, mut request: Request) -> Request {
     match random.below(9) {
-        0 => request.letter = random.pick(b"CEZrwbpstixgand\0\n\xFF"),
+        0 => request.letter = random.pick(b"CEZrwbpstixgandlo\0\n\xFF"),
         1 => request.payload.truncate(random.between(0, request.payload.len())),
         2 => drop(request.payload.pop()),
         3 => request.payload.push(random.byte()),
         4 => change_list_length(random, &mut request.payload),
-        5 => request.letter = random.pick(b"RWBPSTIXGAND"),
+        5 => request.letter = random.pick(b"RWBPSTIXGANDLO"),
         6 => set_room(random, &mut request.payload),
         7 => request = odd_list(random),
         _ => lengthen(random, &mut request.payload),
@@ -29,7 +29,7 @@ fn change_list_length(random: &mut Random, payload: &mut [u8]) {
     }
 }
 
-/// The last 8 bytes are the room in W, P, X, G and A, and the tick in D.
+/// The last 8 bytes are the room in W, P, X, G, A, L and O, and the tick in D.
 fn set_room(random: &mut Random, payload: &mut [u8]) {
     if payload.len() >= 8 {
         let most = LARGEST_ROOM as u64;
@@ -43,12 +43,13 @@ fn set_room(random: &mut Random, payload: &mut [u8]) {
 fn odd_list(random: &mut Random) -> Request {
     let odd = random.pick(&[1, 2, 3, 5, 6, 7]);
     let bytes = vec![0; odd];
-    match random.below(6) {
+    match random.below(7) {
         0 => Request::of(b'W').list(&[1]).list(&[0]).list(&bytes).list(&[]).number(64),
         1 => Request::of(b'W').list(&[1]).list(&[0]).list(&[0; 4]).list(&bytes).number(64),
         2 => Request::of(b'S').list(&[]).list(&bytes),
         3 => Request::of(b'X').list(&[]).list(&bytes).number(4),
         4 => Request::of(b'D').list(&[]).list(&bytes).number(4),
+        5 => Request::of(b'O').list(&[]).list(&bytes).number(4),
         _ => {
             let length = random.pick(&[0, 16, 543, 545, 544 + 4, 2 * 544]);
             Request::of(random.pick(b"TI")).list(&[]).list(&vec![0; length])

@@ -9,6 +9,9 @@
 //!   runs       execution times and run records, fitting and not
 //!   altered    a vertex and a new WCET for it, fitting and not
 //!   late       the tick that a run is asked to end by
+//!   conserving work-conserving schedules that need not be list schedules
+//!   frames     the recorded frames of docs/orders/07.md
+//!   logs       logs of frames, good and with a fault planted for each number that says no
 //!   request    how a request travels
 //!   catalogue  the worked cases and every limit, the same for each seed
 //!   malformed  requests that are none
@@ -16,11 +19,14 @@
 
 pub mod altered;
 pub mod catalogue;
+pub mod conserving;
 pub mod damage;
 pub mod faults;
+pub mod frames;
 pub mod graphs;
 pub mod late;
 pub mod lists;
+pub mod logs;
 pub mod malformed;
 pub mod random;
 pub mod request;

@@ -4,8 +4,8 @@
 use crate::reference::record::RunRecord;
 use crate::reference::writer::Lists;
 
-pub const LONGEST_PAYLOAD: usize = 65_536;
-pub const LARGEST_ROOM: usize = 16_384;
+pub const LONGEST_PAYLOAD: usize = 262_144;
+pub const LARGEST_ROOM: usize = 32_768;
 
 #[derive(Clone, Debug)]
 pub struct Request {
@@ -90,6 +90,14 @@ pub fn second(file: &[u8]) -> Request {
 /// The tick is of 32 bits where the request is one; as a number it may have more.
 pub fn late(file: &[u8], times: &[u32], d: u64) -> Request {
     Request::of(b'D').list(file).list(&words(times)).number(d)
+}
+
+pub fn replay(file: &[u8], log: &[u8], room: usize) -> Request {
+    Request::of(b'L').list(file).list(log).number(room as u64)
+}
+
+pub fn log(file: &[u8], times: &[u32], room: usize) -> Request {
+    Request::of(b'O').list(file).list(&words(times)).number(room as u64)
 }
 
 fn words(list: &[u32]) -> Vec<u8> {

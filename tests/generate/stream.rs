@@ -8,10 +8,11 @@ use super::faults::{file_with, plant};
 use super::graphs;
 use super::late;
 use super::lists::{file_of as file_of_records, lists_of, records_of};
+use super::logs;
 use super::malformed::spoilt;
 use super::random::Random;
 use super::request::{self, Request, LARGEST_ROOM};
-use super::runs::{any_times, damaged, reached, unreached};
+use super::runs::{any_times, damaged, reached, times, unreached};
 use super::ways;
 use crate::reference::graph::{Graph, MOST_VERTICES, MOST_WCET, RECORD};
 use crate::reference::writer::{file_of, Lists};
@@ -35,7 +36,7 @@ impl Stream {
 }
 
 fn any_request(random: &mut Random) -> Request {
-    let request = match random.below(32) {
+    let request = match random.below(40) {
         0..=3 => request::read(&any_file(random, 3).1),
         4..=5 => any_write(random),
         6..=7 => request::bounds(&any_file(random, 8).1),
@@ -46,7 +47,9 @@ fn any_request(random: &mut Random) -> Request {
         16..=19 => any_gains(random),
         20..=23 => any_gains_altered(random),
         24..=27 => any_second(random),
-        _ => any_late(random),
+        28..=31 => any_late(random),
+        32..=35 => any_replay(random),
+        _ => any_log(random),
     };
     if random.one_in(20) {
         spoilt(random, request)
@@ -58,9 +61,7 @@ fn any_request(random: &mut Random) -> Request {
 /// A graph and a file that is its own, but bad in about one of `good_for_bad` cases.
 fn any_file(random: &mut Random, good_for_bad: usize) -> (Graph, Vec<u8>) {
     if !random.one_in(good_for_bad) {
-        let graph = graphs::any(random);
-        let file = file_of(&graph);
-        return (graph, file);
+        return with_file(graphs::any(random));
     }
     if random.one_in(3) {
         let graph = graphs::any(random);
@@ -174,6 +175,39 @@ fn any_late(random: &mut Random) -> Request {
     request::late(&file, &times, d)
 }
 
+/// Every other graph has few cores, so that vertices wait for them. Now and then the longest log, or the longest run.
+fn any_replay(random: &mut Random) -> Request {
+    let (graph, file) = match random.below(60) {
+        0 => {
+            let (graph, log) = logs::longest(random);
+            return request::replay(&file_of(&graph), &log, graph.vertices());
+        }
+        1 => with_file(graphs::chain(MOST_VERTICES, random.between(1, 16) as u8, MOST_WCET)),
+        2..=20 => with_file(graphs::fan(random)),
+        21..=35 => {
+            let graph = graphs::any(random);
+            with_file(Graph { cores: graph.cores.iter().map(|&cores| cores.min(2)).collect(), ..graph })
+        }
+        _ => any_file(random, 6),
+    };
+    let log = logs::any(random, &graph);
+    request::replay(&file, &log, altered::room(random, &graph))
+}
+
+fn with_file(graph: Graph) -> (Graph, Vec<u8>) {
+    let file = file_of(&graph);
+    (graph, file)
+}
+
+/// The room is about what is needed for the log of the run, where there is one.
+fn any_log(random: &mut Random) -> Request {
+    let (graph, file) = any_file(random, 8);
+    let times = if random.one_in(3) { any_times(random, &graph) } else { times(random, &graph) };
+    let needed = 2 * RECORD * times.iter().filter(|&&time| time > 0).count();
+    let room = if random.one_in(3) { any_room(random, needed) } else { needed + random.pick(&[0, 0, 1, 8, 16, 50]) };
+    request::log(&file, &times, room)
+}
+
 /// Every other graph is made to have a number of complete paths.
 fn any_second(random: &mut Random) -> Request {
     if random.one_in(2) {
@@ -187,9 +221,7 @@ fn file_for_gains(random: &mut Random) -> (Graph, Vec<u8>) {
     if !random.one_in(4) {
         return any_file(random, 8);
     }
-    let graph = graphs::twins(random);
-    let file = file_of(&graph);
-    (graph, file)
+    with_file(graphs::twins(random))
 }
 
 fn any_gains(random: &mut Random) -> Request {

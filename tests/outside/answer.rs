@@ -4,9 +4,11 @@ use crate::generate::request::{Request, LARGEST_ROOM, LONGEST_PAYLOAD};
 use crate::reference::bounds::{bounds, path};
 use crate::reference::gains::{gains, gains_altered};
 use crate::reference::late::late;
+use crate::reference::log::log;
 use crate::reference::reader::read;
 use crate::reference::record::RunRecord;
 use crate::reference::refusal::Refusal;
+use crate::reference::replay::replay;
 use crate::reference::schedule::{run, start, tick, Ticked};
 use crate::reference::second::second;
 use crate::reference::writer::{write, Lists};
@@ -35,6 +37,8 @@ pub fn answer(request: &Request) -> String {
         b'A' => answer_gains_altered(fields),
         b'N' => answer_second(fields),
         b'D' => answer_late(fields),
+        b'L' => answer_replay(fields),
+        b'O' => answer_log(fields),
         _ => None,
     };
     line.unwrap_or(BAD.to_string())
@@ -108,6 +112,12 @@ impl<'a> Fields<'a> {
         let (file, times, d) = (self.list()?, self.list_of_words()?, self.word()?);
         self.end()?;
         Some((file, times, d))
+    }
+
+    fn of_replay(mut self) -> Option<(&'a [u8], &'a [u8], usize)> {
+        let (file, log, room) = (self.list()?, self.list()?, self.room()?);
+        self.end()?;
+        Some((file, log, room))
     }
 
     fn end(self) -> Option<()> {
@@ -224,6 +234,27 @@ fn answer_late(fields: Fields) -> Option<String> {
 /// What a request whether a run is late asks about: file, times and tick.
 pub fn asked_late(request: &Request) -> Option<(&[u8], Vec<u32>, u32)> {
     Fields(&request.payload).of_late()
+}
+
+fn answer_replay(fields: Fields) -> Option<String> {
+    let (file, log, room) = fields.of_replay()?;
+    let outcome = read(file).and_then(|graph| replay(&graph, log, room));
+    let with_finish = outcome.map(|replayed| (replayed.finish as usize, replayed.times));
+    Some(lent("replayed", with_finish, room, u32::from_le_bytes([PRESET; 4])))
+}
+
+/// What a request for a replay asks about: file and log.
+pub fn asked_replay(request: &Request) -> Option<(&[u8], &[u8])> {
+    Fields(&request.payload).of_replay().map(|(file, log, _)| (file, log))
+}
+
+fn answer_log(mut fields: Fields) -> Option<String> {
+    let file = fields.list()?;
+    let times = fields.list_of_words()?;
+    let room = fields.room()?;
+    fields.end()?;
+    let outcome = read(file).and_then(|graph| log(&graph, &times, room));
+    Some(lent("log", outcome.map(|log| (log.len(), log)), room, PRESET))
 }
 
 fn told_gains(outcome: Result<Vec<u64>, Refusal>, room: usize) -> String {

@@ -1,10 +1,11 @@
 //! The reference alone: which answers its own requests get, and whether every one of them occurs.
 
-use crate::answer::{answer, answers, asked_late};
+use crate::answer::{answer, answers, asked_late, asked_replay};
 use crate::compare::cut_input;
 use crate::crosscheck;
 use crate::generate::request::Request;
 use crate::generate::stream::Stream;
+use crate::logged::{Logged, LOGS};
 use crate::options::Options;
 use crate::reference::bounds::bounds;
 use crate::reference::graph::Graph;
@@ -14,7 +15,7 @@ use std::collections::BTreeMap;
 
 /// What can be answered to each letter: 12 never. `-` is any request that isn't one. A 7 of A is the file's own; the two
 /// 7s of what is altered have words: `vertex` where the graph doesn't have it, `wcet` where the new one is above the limit.
-const POSSIBLE: [(char, &str, &[u32]); 13] = [
+const POSSIBLE: [(char, &str, &[u32]); 15] = [
     ('R', "graph", &[1, 2, 3, 4, 5, 6, 7, 8, 9, 10, 11]),
     ('W', "wrote", &[4, 5, 6, 7, 8, 9, 10, 11, 13, 15]),
     ('B', "old", &[1, 2, 3, 4, 5, 6, 7, 8, 9, 10, 11]),
@@ -27,8 +28,13 @@ const POSSIBLE: [(char, &str, &[u32]); 13] = [
     ('A', "gains vertex wcet", &[1, 2, 3, 4, 5, 6, 7, 8, 9, 10, 11, 15]),
     ('N', "second", &[1, 2, 3, 4, 5, 6, 7, 8, 9, 10, 11, 17]),
     ('D', "yes no", &[1, 2, 3, 4, 5, 6, 7, 8, 9, 10, 11, 13, 14]),
+    ('L', "replayed", &[1, 2, 3, 4, 5, 6, 7, 8, 9, 10, 11, 15, 18, 19, 20, 21, 22]),
+    ('O', "log", &[1, 2, 3, 4, 5, 6, 7, 8, 9, 10, 11, 13, 14, 15]),
     ('-', "bad", &[]),
 ];
+
+/// The largest number that says no.
+const LAST_NUMBER: u32 = 22;
 
 /// The boards on which Mmax can be taken wrongly: each has to be asked for its bounds. A kind is idle where all vertices
 /// that have it have WCET 0.
@@ -73,6 +79,7 @@ pub fn own_requests(options: &Options) -> bool {
     let mut table: BTreeMap<(char, String), u64> = BTreeMap::new();
     let mut boards = [0; BOARDS.len()];
     let mut ticks = [0; TICKS.len()];
+    let mut logs = [0; LOGS.len()];
     for place in 0..options.count {
         let request = stream.request(place);
         let cell = cell(&request);
@@ -86,24 +93,20 @@ pub fn own_requests(options: &Options) -> bool {
             let (finish, bound) = (finish(&graph, &times).unwrap() as u64, bounds(&graph).ticks);
             TICKS.iter().zip(&mut ticks).for_each(|((_, is), many)| *many += is(finish, bound, d as u64) as u64);
         }
+        if cell.0 == 'L' {
+            let (file, log) = asked_replay(&request).unwrap();
+            if let Ok(graph) = read(file) {
+                let logged = Logged::of(&graph, log);
+                LOGS.iter().zip(&mut logs).for_each(|((_, is), many)| *many += is(&logged) as u64);
+            }
+        }
         *table.entry(cell).or_default() += 1;
     }
     print_table(&table);
-    let asked: Vec<String> = BOARDS.iter().zip(boards).map(|((name, _), many)| format!("{name} {many}")).collect();
-    println!("boards: {}", asked.join(", "));
-    let asked: Vec<String> = TICKS.iter().zip(ticks).map(|((name, _), many)| format!("{name} {many}")).collect();
-    println!("ticks: {}", asked.join(", "));
     let mut faults = missing_and_impossible(&table);
-    faults.extend(
-        TICKS
-            .iter()
-            .zip(ticks)
-            .filter(|(_, many)| *many == 0)
-            .map(|((name, _), _)| format!("no tick asked for is {name}")),
-    );
-    faults.extend(
-        BOARDS.iter().zip(boards).filter(|(_, many)| *many == 0).map(|((name, _), _)| format!("no board has {name}")),
-    );
+    faults.extend(never_asked("boards", &BOARDS.map(|(name, _)| name), &boards));
+    faults.extend(never_asked("ticks", &TICKS.map(|(name, _)| name), &ticks));
+    faults.extend(never_asked("logs", &LOGS.map(|(name, _)| name), &logs));
     faults.extend(crosscheck::faults(options));
     if !(0..24).all(|place| answers(&cut_input(options.seed, place)).ends_with("bad request\n")) {
         faults.push("an input that ends inside a request must end with `bad request`".to_string());
@@ -111,6 +114,14 @@ pub fn own_requests(options: &Options) -> bool {
     faults.iter().for_each(|fault| eprintln!("{fault}"));
     println!("{} requests, {} faults", options.count, faults.len());
     faults.is_empty()
+}
+
+/// Prints how often each was asked for; those that never were.
+fn never_asked(what: &str, names: &[&str], counts: &[u64]) -> Vec<String> {
+    let asked: Vec<String> = names.iter().zip(counts).map(|(name, many)| format!("{name} {many}")).collect();
+    println!("{what}: {}", asked.join(", "));
+    let missing = names.iter().zip(counts).filter(|(_, &many)| many == 0);
+    missing.map(|(name, _)| format!("{what}: {name} is never asked for")).collect()
 }
 
 /// The letter and the answer's kind: its word, or the number of a refusal.
@@ -153,12 +164,12 @@ fn missing_and_impossible(table: &BTreeMap<(char, String), u64>) -> Vec<String> 
 fn print_table(table: &BTreeMap<(char, String), u64>) {
     let count = |letter: char, kind: &str| table.get(&(letter, kind.to_string())).copied().unwrap_or(0);
     print!("{:<3}{:>32}", "", "answered");
-    (1..=17).for_each(|number| print!("{number:>6}"));
+    (1..=LAST_NUMBER).for_each(|number| print!("{number:>6}"));
     println!();
     for (letter, words, _) in POSSIBLE {
         let answered: Vec<String> = words.split(' ').map(|word| format!("{word} {}", count(letter, word))).collect();
         print!("{letter:<3}{:>32}", answered.join(", "));
-        for number in 1..=17 {
+        for number in 1..=LAST_NUMBER {
             match count(letter, &number.to_string()) {
                 0 => print!("{:>6}", "."),
                 many => print!("{many:>6}"),

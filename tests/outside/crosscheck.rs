@@ -1,18 +1,23 @@
 //! The reference against itself by second ways: all complete paths written out, bounds as fractions, ancestors by who
 //! stands before whom on these paths, gains by the paths without a vertex's time, alterations in the file's own bytes,
-//! runs tick by tick, stopped at any, a planted fault for each number and each pair of them, and the values worked on paper.
+//! runs tick by tick, stopped at any, logs tick by tick and every schedule of three vertices, a planted fault for each number
+//! and each pair of them, and the values worked on paper.
 
+use crate::by_ticks::{is_work_conserving, judged, log_of};
 use crate::compare::hex;
 use crate::generate::altered;
 use crate::generate::catalogue::{
     case_a, case_d, case_f, cores_for_no_time, middle_of_no_time, source_of_no_time, two_longest_paths,
 };
 use crate::generate::catalogue::{
-    numbers_of_paths, parallel_to_two, two_sources, two_without_an_edge, type_of_one_core, unused_cores,
+    numbers_of_paths, parallel_to_two, two_cores, two_sources, two_without_an_edge, type_of_one_core, unused_cores,
 };
+use crate::generate::conserving::{schedule, Manner};
 use crate::generate::faults::file_with;
-use crate::generate::graphs::{chain, of, to_be_damaged, twins};
+use crate::generate::frames::frames;
+use crate::generate::graphs::{chain, fan, of, to_be_damaged, twins};
 use crate::generate::lists::{edge, file_of as file_of_records, lists_of, records_of};
+use crate::generate::logs;
 use crate::generate::random::Random;
 use crate::generate::runs::times;
 use crate::generate::ways;
@@ -21,10 +26,12 @@ use crate::reference::bounds::{bounds, least_path, Bounds};
 use crate::reference::gains::{gains, gains_altered, gains_of, ranking, with_wcet};
 use crate::reference::graph::{Graph, MOST_CORES, MOST_VERTICES, MOST_WCET, PARTS_IN_A_TICK, RECORD};
 use crate::reference::late::{late, Late};
+use crate::reference::log::{bytes_of, events_of_run, log};
 use crate::reference::order::topological;
 use crate::reference::reader::read;
 use crate::reference::record::finished;
 use crate::reference::refusal::Refusal;
+use crate::reference::replay::{replay, Replay};
 use crate::reference::schedule::{record_at, run, spans, start, tick, Ticked};
 use crate::reference::second::{second, values, Ways, MOST_PATHS};
 use crate::reference::sheet::sheet;
@@ -42,12 +49,18 @@ const SAMPLES: [(&[u8], &str); 3] = [
     (include_bytes!("../../samples/two-cameras.graph"), include_str!("../../samples/two-cameras.sheet")),
 ];
 
+/// Frames of the board: one as it may run, and one in which a core idled.
+const RECORDED: [&[u8]; 2] =
+    [include_bytes!("../../samples/board.log"), include_bytes!("../../samples/board-idle.log")];
+
 pub fn faults(options: &Options) -> Vec<String> {
     let mut faults = worked_on_paper();
     faults.extend(gains_on_paper());
     faults.extend(second_on_paper());
     faults.extend(late_on_paper());
+    faults.extend(logs_on_paper());
     faults.extend(paths_counted());
+    faults.extend(schedules_of_three());
     for place in 0..2_000 {
         let random = &mut Random::new(options.seed ^ 0x5E1F, place);
         let n = random.between(1, 10);
@@ -59,7 +72,8 @@ pub fn faults(options: &Options) -> Vec<String> {
             && gains_agree(&graph)
             && alteration_agrees(random, &graph)
             && runs_agree(random, &graph)
-            && late_agrees(random, &graph);
+            && late_agrees(random, &graph)
+            && logs_agree(random, &graph);
         if !same {
             faults.push(format!("two ways of the reference differ on {graph:?}"));
         }
@@ -89,6 +103,11 @@ pub fn faults(options: &Options) -> Vec<String> {
             faults.extend((0..40).filter_map(|place| planted(options.seed, place, a, b)));
         }
     }
+    for a in 18..=22 {
+        for b in a..=22 {
+            faults.extend((0..40).filter_map(|place| planted_in_log(options.seed, place, a, b)));
+        }
+    }
     faults
 }
 
@@ -101,6 +120,21 @@ fn planted(seed: u64, place: u64, a: u32, b: u32) -> Option<String> {
         Err(refusal) if refusal.number == a => None,
         other => Some(format!("faults {a} and {b} planted in {}: {other:?}", hex(&file))),
     }
+}
+
+/// The same in a log, whatever the room. Without a fault only the room says no.
+fn planted_in_log(seed: u64, place: u64, a: u32, b: u32) -> Option<String> {
+    let random = &mut Random::new(seed ^ (a * 100 + b) as u64, place);
+    let graph = fan(random);
+    let (n, times) = (graph.vertices(), graph.wcets.iter().map(|&c| random.between(1, c as usize) as u32));
+    let times: Vec<u32> = times.collect();
+    let good = logs::with(random, &graph, &times, &[]);
+    let log = logs::with(random, &graph, &times, &[a, b]);
+    let outcome = [replay(&graph, &log, n), replay(&graph, &log, 0)];
+    let is_a = outcome[0] == outcome[1] && outcome[0].as_ref().is_err_and(|refusal| refusal.number == a);
+    let room_says_no = replay(&graph, &good, n - 1) == Err(Refusal { number: 15, place: 0 });
+    (!is_a || !room_says_no || replay(&graph, &good, n).map(|r| r.times) != Ok(times))
+        .then(|| format!("faults {a} and {b} planted in the log {} of {graph:?}: {outcome:?}", hex(&log)))
 }
 
 fn round_trip_agrees(graph: &Graph) -> bool {
@@ -280,6 +314,63 @@ fn late_agrees(random: &mut Random, graph: &Graph) -> bool {
     late(graph, &times, u32::MAX) == Ok(Late { yes: true, played: 0 })
 }
 
+/// Any log is judged as it is tick by tick. That of a schedule is accepted with its times, ends with the last stop and by
+/// NEW-B-1; that of a list schedule has the run's finish, and is refused where the room is a byte short.
+fn logs_agree(random: &mut Random, graph: &Graph) -> bool {
+    let n = graph.vertices();
+    let times = times(random, graph);
+    let manner = Manner::any(random);
+    let any = schedule(random, graph, &times, manner);
+    let end = any.last().map_or(0, |event| event.instant as u64);
+    let of_run = bytes_of(&events_of_run(graph, &times));
+    let finish = spans(graph, &times).iter().map(|span| span.end).max().unwrap();
+    let room = random.below(n + 2);
+    let odd = logs::any(random, graph);
+    replay(graph, &bytes_of(&any), n) == Ok(Replay { finish: end, times: times.clone() })
+        && end <= bounds(graph).ticks
+        && replay(graph, &of_run, n) == Ok(Replay { finish, times: times.clone() })
+        && log(graph, &times, of_run.len()) == Ok(of_run.clone())
+        && (of_run.is_empty() || log(graph, &times, of_run.len() - 1) == Err(Refusal { number: 15, place: 0 }))
+        && [bytes_of(&any), of_run, odd].iter().all(|log| replay(graph, log, room) == judged(graph, log, room))
+}
+
+/// Every schedule of three vertices over three ticks, whoever runs in each of them, on every graph of theirs with one type
+/// or two: its log is accepted exactly where the schedule is work conserving, and has its times.
+fn schedules_of_three() -> Vec<String> {
+    let edges = [(0, 1), (0, 2), (1, 2)];
+    let subset = |set: usize| edges.iter().enumerate().filter(move |(i, _)| set >> i & 1 == 1).map(|(_, &edge)| edge);
+    let mut faults = Vec::new();
+    let mut accepted = 0;
+    for board in 0..8 * 4 * 2 {
+        let graph = Graph {
+            cores: [[1, 1], [2, 1]][board % 2].to_vec(),
+            kinds: [[0, 0, 0], [0, 0, 1], [0, 1, 0], [0, 1, 1]][board / 2 % 4].to_vec(),
+            wcets: vec![2, 1, 3],
+            edges: subset(board / 8).collect(),
+        };
+        for sets in 0..8usize.pow(3) {
+            let ticks: Vec<Vec<bool>> =
+                (0..3).map(|t| (0..3).map(|v| sets >> (3 * t + v) & 1 == 1).collect()).collect();
+            // the log says nothing of ticks behind its last record
+            let busy = ticks.iter().rposition(|tick| tick.contains(&true)).map_or(0, |t| t + 1);
+            let log = bytes_of(&log_of(3, &ticks[..busy]));
+            let outcome = replay(&graph, &log, 3);
+            let is_conserving = is_work_conserving(&graph, &ticks[..busy]);
+            accepted += outcome.is_ok() as u64;
+            if outcome != judged(&graph, &log, 3)
+                || outcome.is_ok() != is_conserving
+                || outcome.is_ok_and(|replayed| replayed.finish != busy as u64)
+            {
+                faults.push(format!("{ticks:?} on {graph:?} is judged in two ways"));
+            }
+        }
+    }
+    if accepted < 1_000 {
+        faults.push(format!("only {accepted} schedules of three vertices are accepted"));
+    }
+    faults
+}
+
 /// The cases of document 01, order 2's own, the examples of document 000, and the samples.
 fn worked_on_paper() -> Vec<String> {
     let mut faults = Vec::new();
@@ -345,6 +436,116 @@ fn worked_on_paper() -> Vec<String> {
     expect("the sample of case A", SAMPLES[0].0 == file(&a));
     SAMPLES.iter().for_each(|(bytes, text)| expect("a sample's sheet", sheet(bytes) == *text));
     faults
+}
+
+/// docs/orders/07.md works these out: the finish and the times, or the number and the place.
+fn logs_on_paper() -> Vec<String> {
+    let [a, two, d] =
+        [case_a(), two_cores(), case_d()].map(|lists| read(&file_of_records(&records_of(&lists))).unwrap());
+    let full: (u64, &[u32]) = (16, &[4, 9, 6, 3]);
+    let whole = |finish: u64| Ok((finish, &[4, 4, 4, 2][..]));
+    let worked: [(&str, Result<(u64, &[u32]), (u32, usize)>); 49] = [
+        ("as planned", Ok(full)),
+        ("nothing ran", Ok((0, &[0; 4]))),
+        ("2 took no time", Ok((16, &[4, 9, 0, 3]))),
+        ("3 alone took time", Ok((3, &[0, 0, 0, 3]))),
+        ("1 stopped and started at 7", Ok(full)),
+        ("another kind", Err((18, 2))),
+        ("vertex 4", Err((18, 3))),
+        ("2 before 1", Err((18, 3))),
+        ("start before stop", Err((18, 2))),
+        ("back in time", Err((18, 5))),
+        ("0 starts twice", Err((18, 1))),
+        ("2 stops twice", Err((18, 5))),
+        ("3 runs on", Err((18, 0))),
+        ("stops at 128,000,001", Err((18, 7))),
+        ("stops at 128,000,000", Err((21, 3))),
+        ("3 before 1 is finished", Err((19, 5))),
+        ("3 past absent ones", Err((19, 1))),
+        ("0 comes back", Err((19, 2))),
+        ("0 took 5", Err((21, 0))),
+        ("2 took 7", Err((21, 2))),
+        ("3 took 4", Err((21, 3))),
+        ("begins at 1", Err((22, 0))),
+        ("2 a tick late", Err((22, 4))),
+        ("2 rests at 8", Err((22, 8))),
+        ("3 a tick late", Err((22, 13))),
+        ("3 rests at 15", Err((22, 15))),
+        ("2 and 3 a tick late", Err((22, 4))),
+        ("begins at 1, 0 took 5", Err((21, 0))),
+        ("0 took 5, 3 too early", Err((19, 1))),
+        ("all of it, and 3 runs on", Err((18, 0))),
+        ("a stop first", Err((18, 0))),
+        ("3 before 0", Err((19, 0))),
+        ("as planned", whole(8)),
+        ("0 set aside at 1", whole(9)),
+        ("0 last", whole(10)),
+        ("0 stopped and started at 1", whole(8)),
+        ("every tick another two", whole(8)),
+        ("three at once", Err((20, 2))),
+        ("0 resumed too early", Err((20, 4))),
+        ("2 a tick early", Err((20, 2))),
+        ("3 while 0 is set aside", Err((19, 5))),
+        ("three at once, 3 too early", Err((19, 3))),
+        ("0 took 5, three at once", Err((20, 2))),
+        ("2 a tick late", Err((22, 1))),
+        ("0 resumed late", Err((22, 4))),
+        ("D as planned", Ok((9, &[0, 3, 2, 5, 1, 6, 0]))),
+        ("E as planned", Ok((14, &[0, 2, 2, 5, 1, 6, 0]))),
+        ("E, 4 before 3", Ok((9, &[0, 2, 2, 5, 1, 6, 0]))),
+        ("2 and 3 on one core", Err((20, 1))),
+    ];
+    let mut faults = Vec::new();
+    let frames = frames();
+    for ((name, lists, log), (same, outcome)) in frames.iter().zip(&worked) {
+        let graph = read(&file_of_records(&records_of(lists))).unwrap();
+        let n = graph.vertices();
+        let want = |room: usize| match outcome {
+            Err((number, place)) => Err(Refusal { number: *number, place: *place }),
+            Ok(_) if room < n => Err(Refusal { number: 15, place: 0 }),
+            Ok((finish, times)) => Ok(Replay { finish: *finish, times: times.to_vec() }),
+        };
+        if name != same || [0, n - 1, n, n + 1].iter().any(|&room| replay(&graph, log, room) != want(room)) {
+            faults.push(format!("the log '{name}' has another outcome than on paper"));
+        }
+    }
+    // a spare byte, a length, and the logs of runs
+    let spare = |at: usize| {
+        let mut log = frames[0].2.clone();
+        log[at] = 1;
+        replay(&a, &log, 4)
+    };
+    let mut expect = |name: &str, holds: bool| {
+        if !holds {
+            faults.push(format!("{name} is not as on paper"));
+        }
+    };
+    expect("a log of every frame", frames.len() == worked.len());
+    expect("a spare byte", spare(8 * 3 + 2) == refused(18, 3) && spare(8 * 7 + 3) == refused(18, 7));
+    expect("a byte less", replay(&a, &frames[0].2[..63], 4) == refused(18, 0));
+    expect("a byte more", replay(&a, &[&frames[0].2[..], &[0]].concat(), 4) == refused(18, 0));
+    expect("the bounds of two cores", bounds(&two).ticks == 10);
+    let (with_e, zero) = ([0, 2, 2, 5, 1, 6, 0], [0; 4]);
+    expect("A's log", log(&a, &a.wcets, 64).as_ref() == Ok(&frames[0].2) && log(&a, &a.wcets, 63).is_err());
+    expect("A's log of no time", log(&a, &zero, 0) == Ok(vec![]));
+    expect("the log of two cores", log(&two, &two.wcets, 64).as_ref() == Ok(&frames[32].2));
+    expect("D's log", log(&d, &d.wcets, 80).as_ref() == Ok(&frames[45].2));
+    expect("E's log", log(&d, &with_e, 80).as_ref() == Ok(&frames[46].2));
+    expect("L's log", log(&a, &[4, 10, 6, 3], 0) == Err(Refusal { number: 14, place: 1 }));
+    expect("a log of three times", log(&a, &[4, 10, 6], 0) == Err(Refusal { number: 13, place: 0 }));
+    let board = read(SAMPLES[1].0).unwrap();
+    let [ran, idled] = RECORDED.map(|log| replay(&board, log, 91));
+    expect("the board's frame", ran.map(|replayed| replayed.finish) == Ok(31_656));
+    expect("the board's frame with a core idle", idled == refused(22, 2_549));
+    let longest = chain(MOST_VERTICES, 1, MOST_WCET);
+    let all = log(&longest, &longest.wcets, 2_048).unwrap();
+    let last = Replay { finish: 128_000_000, times: longest.wcets.clone() };
+    expect("the longest run", all.len() == 2_048 && replay(&longest, &all, MOST_VERTICES) == Ok(last));
+    faults
+}
+
+fn refused<T>(number: u32, place: usize) -> Result<T, Refusal> {
+    Err(Refusal { number, place })
 }
 
 /// docs/orders/05.md works these out.

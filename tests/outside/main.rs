@@ -1,13 +1,16 @@
 //! The planner's tests from outside. `tests/run` calls this; `outside` by itself says how.
 
 mod answer;
+mod by_ticks;
 mod census;
 mod compare;
 mod crosscheck;
 #[path = "../generate/mod.rs"]
 mod generate;
+mod logged;
 mod options;
 mod probe;
+mod recorded;
 #[path = "../reference/mod.rs"]
 mod reference;
 mod schedules;
@@ -30,6 +33,8 @@ fn main() -> ExitCode {
         Mode::Schedules => schedules::schedules(&options),
         Mode::Sheets => sheets::sheets(&options),
         Mode::Sheet => sheets::sheet_of_input(),
+        Mode::Frame => recorded::frame_of_input(&options, None),
+        Mode::IdleFrame => recorded::frame_of_input(&options, Some(recorded::IDLE)),
         Mode::Requests => compare::requests(&options),
         Mode::Show => compare::show(&options),
         Mode::Answer => answer::answer_input(),

@@ -7,6 +7,8 @@ outside --self [--count N] [--seed S]               the reference alone: all ans
 outside --schedules N [--seed S] [PROBE-COMMAND..]  random work-conserving schedules against the bounds
 outside --sheets N [--seed S] SHEET-COMMAND..       compare the sheet program's text, a process for each file
 outside --sheet                                     the reference's sheet of standard input
+outside --frame [--seed S]                          a log of the graph on standard input, of a frame that is no list schedule
+outside --idle-frame [--seed S]                     the same, where a core idles once while a vertex waits for it
 outside --requests N [--seed S]                     the requests alone, to standard output
 outside --answer                                    the reference as a probe: tries the pipes
 outside --show PLACE [--seed S]                     the request of that place in full, with the answer expected";
@@ -18,6 +20,8 @@ pub enum Mode {
     Schedules,
     Sheets,
     Sheet,
+    Frame,
+    IdleFrame,
     Requests,
     Show,
     Answer,
@@ -33,7 +37,7 @@ pub struct Options {
 
 impl Options {
     pub fn from(words: impl Iterator<Item = String>) -> Result<Options, String> {
-        let mut options = Options { mode: Mode::Compare, count: 30_000, seed: 1, command: Vec::new() };
+        let mut options = Options { mode: Mode::Compare, count: 40_000, seed: 1, command: Vec::new() };
         let mut words = words;
         while let Some(word) = words.next() {
             let mut number = || {
@@ -47,6 +51,8 @@ impl Options {
                 _ if !options.command.is_empty() => options.command.push(word),
                 "--self" => options.mode = Mode::OwnRequests,
                 "--sheet" => options.mode = Mode::Sheet,
+                "--frame" => options.mode = Mode::Frame,
+                "--idle-frame" => options.mode = Mode::IdleFrame,
                 "--answer" => options.mode = Mode::Answer,
                 "--schedules" => (options.mode, options.count) = (Mode::Schedules, number()?),
                 "--sheets" => (options.mode, options.count) = (Mode::Sheets, number()?),

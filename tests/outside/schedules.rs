@@ -2,6 +2,7 @@
 //! must finish by NEW-B-1, and NEW-B-1 must not exceed OLD-B; the same for NEW-B-2 and NEW-B-1, where there are few enough
 //! complete paths.
 
+use crate::generate::conserving::{schedule, Manner};
 use crate::generate::graphs::of;
 use crate::generate::random::Random;
 use crate::generate::request;
@@ -10,23 +11,8 @@ use crate::options::Options;
 use crate::probe::{Probe, BAD_END};
 use crate::reference::bounds::{bounds, Bounds};
 use crate::reference::graph::{Graph, MOST_VERTICES, PARTS_IN_A_TICK};
-use crate::reference::order::topological;
-use crate::reference::record::{finished, ready};
 use crate::reference::second::second;
 use crate::reference::writer::file_of;
-
-/// How the cores are given to the ready vertices, anew in each tick.
-#[derive(Clone, Copy)]
-enum Choice {
-    /// any of them
-    Any,
-    /// the same as in the tick before, but for a surprise now and then
-    MostlyKept,
-    /// those with the least work behind them, so that the longest chain waits
-    LongestLast,
-    /// the highest numbers
-    HighestFirst,
-}
 
 pub fn schedules(options: &Options) -> bool {
     let seed = options.seed;
@@ -111,42 +97,8 @@ fn probed_second(line: Option<String>) -> Option<u64> {
     }
 }
 
+/// The cores are given anew in most ticks.
 fn finish_of(random: &mut Random, graph: &Graph, times: &[u32]) -> u64 {
-    let behind = work_behind(graph);
-    let choice = random.pick(&[Choice::Any, Choice::MostlyKept, Choice::LongestLast, Choice::HighestFirst]);
-    let mut left = times.to_vec();
-    let mut ran = vec![false; graph.vertices()];
-    let mut instant = 0;
-    while !finished(graph, &left).iter().all(|&f| f) {
-        let ready = ready(graph, &left);
-        let mut runs = vec![false; graph.vertices()];
-        for (kind, &cores) in graph.cores.iter().enumerate() {
-            let mut waiting: Vec<usize> =
-                (0..graph.vertices()).filter(|&v| ready[v] && graph.kinds[v] as usize == kind).collect();
-            random.shuffle(&mut waiting);
-            match choice {
-                Choice::Any => {}
-                Choice::MostlyKept if random.one_in(6) => {}
-                Choice::MostlyKept => waiting.sort_by_key(|&v| !ran[v]),
-                Choice::LongestLast => waiting.sort_by_key(|&v| behind[v]),
-                Choice::HighestFirst => waiting.sort_by_key(|&v| MOST_VERTICES - v),
-            }
-            // work conserving: as many as there are cores or ready vertices, whichever are fewer
-            waiting.iter().take(cores as usize).for_each(|&v| runs[v] = true);
-        }
-        (0..graph.vertices()).filter(|&v| runs[v]).for_each(|v| left[v] -= 1);
-        ran = runs;
-        instant += 1;
-    }
-    instant
-}
-
-/// The most ticks from a vertex to the sink.
-fn work_behind(graph: &Graph) -> Vec<u64> {
-    let after = graph.successors();
-    let mut behind = vec![0; graph.vertices()];
-    for &v in topological(graph).iter().rev() {
-        behind[v] = graph.wcets[v] as u64 + after[v].iter().map(|&w| behind[w]).max().unwrap_or(0);
-    }
-    behind
+    let manner = Manner { more: usize::MAX, ..Manner::any(random) };
+    schedule(random, graph, times, manner).last().map_or(0, |event| event.instant as u64)
 }

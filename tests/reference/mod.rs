@@ -2,7 +2,7 @@
 //!
 //! It is the witness that the proved planner is compared with, so it takes other ways wherever there are any: a
 //! search in depth for the cycle, sums in topological order, whole paths compared as lists, complete paths by their
-//! numbers, a run as a queue of finishes. Read in this order:
+//! numbers, a run as a queue of finishes, a log by the instants that it tells of. Read in this order:
 //!
 //!   refusal   a number and a place
 //!   graph     an accepted graph
@@ -15,6 +15,8 @@
 //!   record    the run record, and which of them suit a graph (16)
 //!   schedule  start, tick, whole run
 //!   late      whether a run ends by a tick, and the ticks played to tell
+//!   log       what the log of a frame says, and the log of a list schedule
+//!   replay    which logs are work-conserving schedules (18 to 22)
 //!   sheet     the program's text
 
 pub mod bounds;
@@ -22,10 +24,12 @@ pub mod gains;
 pub mod graph;
 pub mod judge;
 pub mod late;
+pub mod log;
 pub mod order;
 pub mod reader;
 pub mod record;
 pub mod refusal;
+pub mod replay;
 pub mod schedule;
 pub mod second;
 pub mod sheet;

@@ -16,7 +16,7 @@ pub enum Ticked {
 }
 
 /// Numbers 13 and 14, of the execution times.
-fn judge_times(graph: &Graph, times: &[u32]) -> Result<(), Refusal> {
+pub fn judge_times(graph: &Graph, times: &[u32]) -> Result<(), Refusal> {
     refuse_if(13, times.len() != graph.vertices())?;
     refuse_first(14, 0, times.iter().zip(&graph.wcets).map(|(e, c)| e > c))
 }

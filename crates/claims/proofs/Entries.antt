@@ -27,7 +27,10 @@ use Rattle.schedule.specs.declared.Played.{Played}
 use Rattle.codes.specs.Coded.{codedGraph, codedWrote, BoundsCoded, SecondCoded, PathCoded, GainsCoded, AlteredCoded}
 use Rattle.late.specs.Answers.{LateOf}
 use Rattle.late.specs.declared.Lateness.{Lateness}
-use Rattle.codes.specs.CodedRun.{codedStart, codedReport, codedTick, codedPlay, LateCoded}
+use Rattle.replay.specs.Answers.{replayOf, timesAfter}
+use Rattle.replay.specs.declared.Replayed.{Replayed}
+use Rattle.logs.specs.Answers.{loggedOf, logRoom}
+use Rattle.codes.specs.CodedRun.{codedStart, codedReport, codedTick, codedPlay, codedReplay, LateCoded}
 use Rattle.codes.specs.declared.PlannerGraph.{PlannerGraph}
 use Rattle.codes.specs.declared.PlannerCount.{PlannerCount}
 use Rattle.codes.specs.declared.PlannerBounds.{PlannerBounds}
@@ -37,7 +40,7 @@ use Rattle.codes.specs.declared.PlannerMoved.{PlannerMoved}
 use Rattle.codes.specs.declared.PlannerTick.{PlannerTick}
 use Rattle.codes.specs.declared.PlannerFinish.{PlannerFinish}
 use Rattle.codes.specs.declared.PlannerLate.{PlannerLate}
-use Rattle.claims.specs.Entries.{ReadGives, WriteGives, BoundsGives, SecondGives, PathGives, GainsGives, AlteredGives, StartGives, TickGives, TickInPlaceGives, RunGives, LateGives, PlannerReadGives, PlannerWriteGives, PlannerBoundsGives, PlannerSecondGives, PlannerPathGives, PlannerGainsGives, PlannerAlteredGives, PlannerStartGives, PlannerTickGives, PlannerTickInPlaceGives, PlannerRunGives, PlannerLateGives}
+use Rattle.claims.specs.Entries.{ReadGives, WriteGives, BoundsGives, SecondGives, PathGives, GainsGives, AlteredGives, StartGives, TickGives, TickInPlaceGives, RunGives, LateGives, ReplayGives, LogGives, PlannerReadGives, PlannerWriteGives, PlannerBoundsGives, PlannerSecondGives, PlannerPathGives, PlannerGainsGives, PlannerAlteredGives, PlannerStartGives, PlannerTickGives, PlannerTickInPlaceGives, PlannerRunGives, PlannerLateGives, PlannerReplayGives, PlannerLogGives}
 
 pub read-given : {s : List ℕ} {t : Taken} → ReadGives s t → t ≡ readOf s
 read-given h = sym (h .as-seen .1) ∙ h .ensured ∙ ap readOf (h .as-seen .0)
@@ -125,3 +128,17 @@ late-given h = let i = h .as-seen in rw (← i .0, ← i .1, ← i .2, ← i .3)
 
 pub planner-late-given : {s e : List ℕ} {d : ℕ} {r : PlannerLate} → PlannerLateGives s e d r → LateCoded s e d r
 planner-late-given h = let i = h .as-seen in rw (← i .0, ← i .1, ← i .2, ← i .3) (h .ensured)
+
+pub replay-given : {s l old new : List ℕ} {r : Replayed} → ReplayGives s l old r new → (r ≡ replayOf s l (length old)) × (new ≡ timesAfter s l old)
+replay-given h = let i = h .as-seen in rw (← i .0, ← i .1, ← i .2, ← i .3, ← i .4) (h .ensured)
+
+pub log-given : {s e old new : List ℕ} {w : Wrote} → LogGives s e old w new → (w ≡ loggedOf s e (length old)) × (new ≡ logRoom s e old)
+log-given h = let i = h .as-seen in rw (← i .0, ← i .1, ← i .2, ← i .3, ← i .4) (h .ensured)
+
+pub planner-replay-given : {s l old new : List ℕ} {r : PlannerFinish} → PlannerReplayGives s l old r new
+    → (r ≡ codedReplay (replayOf s l (length old))) × (new ≡ timesAfter s l old)
+planner-replay-given h = let i = h .as-seen in rw (← i .0, ← i .1, ← i .2, ← i .3, ← i .4) (h .ensured)
+
+pub planner-log-given : {s e old new : List ℕ} {w : PlannerCount} → PlannerLogGives s e old w new
+    → (w ≡ codedWrote (loggedOf s e (length old))) × (new ≡ logRoom s e old)
+planner-log-given h = let i = h .as-seen in rw (← i .0, ← i .1, ← i .2, ← i .3, ← i .4) (h .ensured)

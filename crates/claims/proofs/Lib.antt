@@ -11,6 +11,7 @@ pub mod Order3
 pub mod Order4
 pub mod Order5
 pub mod Order6
+pub mod Order7
 -- What they cite of this crate.
 pub mod Entries
 pub mod Judged

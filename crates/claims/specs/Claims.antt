@@ -18,6 +18,8 @@
 --                              as it was
 --   RunLent s e old new F      F is the finish of the file's list schedule; the list new, which was old, has each vertex's finish instant in
 --                              its first N places, and is otherwise as it was
+--   TimesLent s l old new      the list new, which was old, has in its first N places how long each vertex ran in the log l, and is otherwise
+--                              as it was
 use mathlib.Core.Path.{_≡_}
 use mathlib.Core.Bool.{false}
 use mathlib.Core.List.{List, _++_}
@@ -43,6 +45,7 @@ use Rattle.writer.specs.declared.Wrote.the-variants.{Bytes as Wrote-bytes, Refu
 use Rattle.tick.specs.Run.{recordOf}
 use Rattle.tick.specs.declared.Run.{Run}
 use Rattle.times.specs.Times.{timesOf}
+use Rattle.recorded.specs.Recorded.{scheduleOf}
 
 abbrev pub Bytes : List ℕ → Type 0
 Bytes s = (i : ℕ) → getD s i 0 < 256
@@ -104,3 +107,8 @@ pub record RunLent (s e old new : List ℕ) (F : ℕ) : Type 0 where
   pub instants : (v : ℕ) → v < readOf s .graph .n → FinishOf (graphIn s) (schedule s e) v (getD new v 0)
   pub as-long : length new ≡ length old
   pub kept : (i : ℕ) → readOf s .graph .n ≤ i → getD new i 0 ≡ getD old i 0
+
+pub record TimesLent (s l old new : List ℕ) : Type 0 where
+  pub times : (v : ℕ) → v < graphIn s .n → getD new v 0 ≡ scheduleOf l .time v
+  pub as-long : length new ≡ length old
+  pub kept : (i : ℕ) → graphIn s .n ≤ i → getD new i 0 ≡ getD old i 0

@@ -13,6 +13,8 @@
 --   TickInPlaceGives s r x r′        `tick_in_place`: the report, and the caller's record from r to r′
 --   RunGives s e old p new           `run`: the answer for the file s and the times e, and the lent list from old to new
 --   LateGives s e d r                `late`: the answer for the file s, the times e and the tick d
+--   ReplayGives s l old r new        `replay`: the answer for the file s and the log l, and the lent list from old to new
+--   LogGives s e old w new           `log`: the answer for the file s and the times e, and the lent room from old to new
 --   PlannerReadGives s r, ..         the same of the entries for C and Rust
 --
 -- Of functions inside, which rest on what their `requires` says:
@@ -74,6 +76,11 @@ use Rattle.leaps.proofs.until.Reads as until-reads
 use Rattle.late.specs.declared.Lateness.{Lateness}
 use Rattle.late.proofs.late as late
 use Rattle.late.proofs.late.Reads as late-reads
+use Rattle.replay.specs.declared.Replayed.{Replayed}
+use Rattle.replay.proofs.replay as replay
+use Rattle.replay.proofs.replay.Reads as replay-reads
+use Rattle.logs.proofs.log as log
+use Rattle.logs.proofs.log.Reads as log-reads
 use Rattle.codes.specs.declared.PlannerGraph.{PlannerGraph}
 use Rattle.codes.specs.declared.PlannerCount.{PlannerCount}
 use Rattle.codes.specs.declared.PlannerBounds.{PlannerBounds}
@@ -106,6 +113,10 @@ use Rattle.planner.proofs.planner_run as planner-run
 use Rattle.planner.proofs.planner_run.Reads as planner-run-reads
 use Rattle.planner.proofs.planner_late as planner-late
 use Rattle.planner.proofs.planner_late.Reads as planner-late-reads
+use Rattle.planner.proofs.planner_replay as planner-replay
+use Rattle.planner.proofs.planner_replay.Reads as planner-replay-reads
+use Rattle.planner.proofs.planner_log as planner-log
+use Rattle.planner.proofs.planner_log.Reads as planner-log-reads
 use Rattle.planner.proofs.Outcomes.{planner-tick-in-place-stated}
 
 abbrev pub ReadGives : List ℕ → Taken → Type 0
@@ -153,6 +164,15 @@ abbrev pub LateGives : List ℕ → List ℕ → ℕ → Lateness → Type 0
 LateGives s e d r = Allows late.ended late-reads.Post (λ κs a x w. (now (a .0) ≡ s) × (now (a .1 .0) ≡ e) × (a .1 .1 .0 ≡ d) × (x ≡ r))
 
 -- ---- inside
+
+abbrev pub ReplayGives : List ℕ → List ℕ → List ℕ → Replayed → List ℕ → Type 0
+ReplayGives s l old r new =
+    Allows replay.ended replay-reads.Post
+    (λ κs a x w. (now (a .0) ≡ s) × (now (a .1 .0) ≡ l) × (now (a .1 .1 .0) ≡ old) × (x ≡ r) × (now (w .1 .1 .0) ≡ new))
+
+abbrev pub LogGives : List ℕ → List ℕ → List ℕ → Wrote → List ℕ → Type 0
+LogGives s e old w new =
+    Allows log.ended log-reads.Post (λ κs a r x. (now (a .0) ≡ s) × (now (a .1 .0) ≡ e) × (now (a .1 .1 .0) ≡ old) × (r ≡ w) × (now (x .1 .1 .0) ≡ new))
 
 abbrev pub AfreshGives : List ℕ → List ℕ → List ℕ → ℕ → List ℕ → Summary → Type 0
 AfreshGives e st o n w r =
@@ -222,3 +242,13 @@ PlannerRunGives s e old p new =
 abbrev pub PlannerLateGives : List ℕ → List ℕ → ℕ → PlannerLate → Type 0
 PlannerLateGives s e d r =
     Allows planner-late.ended planner-late-reads.Post (λ κs a x w. (now (a .0) ≡ s) × (now (a .1 .0) ≡ e) × (a .1 .1 .0 ≡ d) × (x ≡ r))
+
+abbrev pub PlannerReplayGives : List ℕ → List ℕ → List ℕ → PlannerFinish → List ℕ → Type 0
+PlannerReplayGives s l old r new =
+    Allows planner-replay.ended planner-replay-reads.Post
+    (λ κs a x w. (now (a .0) ≡ s) × (now (a .1 .0) ≡ l) × (now (a .1 .1 .0) ≡ old) × (x ≡ r) × (now (w .1 .1 .0) ≡ new))
+
+abbrev pub PlannerLogGives : List ℕ → List ℕ → List ℕ → PlannerCount → List ℕ → Type 0
+PlannerLogGives s e old w new =
+    Allows planner-log.ended planner-log-reads.Post
+    (λ κs a r x. (now (a .0) ≡ s) × (now (a .1 .0) ≡ e) × (now (a .1 .1 .0) ≡ old) × (r ≡ w) × (now (x .1 .1 .0) ≡ new))

@@ -23,6 +23,8 @@ use Rattle.codes.proofs.coded_tick as coded-tick
 use Rattle.codes.proofs.coded_tick.Reads as coded-tick-reads
 use Rattle.codes.proofs.coded_play as coded-play
 use Rattle.codes.proofs.coded_play.Reads as coded-play-reads
+use Rattle.codes.proofs.coded_replay as coded-replay
+use Rattle.codes.proofs.coded_replay.Reads as coded-replay-reads
 
 pub coded-graph-one : OneOutcome coded-graph.ended coded-graph-reads.Pre coded-graph-reads.Post
 coded-graph-one κs a r r′ ws ws′ pre p q = (p ∙ sym q, refl)
@@ -56,3 +58,6 @@ coded-tick-one κs a r r′ ws ws′ pre p q = (p ∙ sym q, refl)
 
 pub coded-play-one : OneOutcome coded-play.ended coded-play-reads.Pre coded-play-reads.Post
 coded-play-one κs a r r′ ws ws′ pre p q = (p ∙ sym q, refl)
+
+pub coded-replay-one : OneOutcome coded-replay.ended coded-replay-reads.Pre coded-replay-reads.Post
+coded-replay-one κs a r r′ ws ws′ pre p q = (p ∙ sym q, refl)

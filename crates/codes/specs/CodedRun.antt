@@ -3,6 +3,7 @@
 --   codedStart, codedPlay     the answers of `start` and `run`
 --   codedReport x             what a tick reports
 --   codedTick                 the answer of `tick`
+--   codedReplay               the answer of `replay`
 --   codedLate                 the answer of `late`: yes is 1, no 0
 --   LateCoded s e d r         r is the coded answer of `late` for the file s, the times e and the tick d
 use mathlib.Core.Path.{_≡_}
@@ -12,6 +13,8 @@ use Rattle.model.specs.Places.{bit}
 use Rattle.graph.specs.Said.{ofAnswer}
 use Rattle.late.specs.Answers.{LateOf}
 use Rattle.late.specs.declared.Lateness.{Lateness}
+use Rattle.replay.specs.declared.Replayed.{Replayed}
+use Rattle.replay.specs.Answers.{ofReplayed}
 use Rattle.schedule.specs.declared.Started.{Started}
 use Rattle.schedule.specs.declared.Played.{Played}
 use Rattle.schedule.specs.Whole.{ofPlayed}
@@ -40,6 +43,9 @@ codedTick t = record {
 
 abbrev pub codedPlay : Played → PlannerFinish
 codedPlay p = record { number = ofPlayed p .number; place = ofPlayed p .place; finish = ofPlayed p .value }
+
+abbrev pub codedReplay : Replayed → PlannerFinish
+codedReplay p = record { number = ofReplayed p .number; place = ofReplayed p .place; finish = ofReplayed p .value }
 
 abbrev pub codedLate : Lateness → PlannerLate
 codedLate r = record { number = ofAnswer (r .answer) .number; place = ofAnswer (r .answer) .place; yes = bit (r .yes); played = r .played .0 }

@@ -4,7 +4,7 @@ ghost use mathlib.Core.Path.{_≡_};
 ghost use Rattle.model.specs.Places.{bit};
 ghost use Rattle.graph.specs.Said.{ofAnswer};
 ghost use Rattle.codes.specs.Coded.{codedGraph, codedWrote, codedPath, codedGains, codedBounds, codedSecond};
-ghost use Rattle.codes.specs.CodedRun.{codedStart, codedReport, codedTick, codedPlay, codedLate};
+ghost use Rattle.codes.specs.CodedRun.{codedStart, codedReport, codedTick, codedPlay, codedLate, codedReplay};
 use bounds::Bounded;
 use bounds::Pathed;
 use gains::Gained;
@@ -12,6 +12,7 @@ use graph::Answer;
 use graph::Graph;
 use graph::Taken;
 use late::Lateness;
+use replay::Replayed;
 use schedule::Played;
 use schedule::Started;
 use second::Seconded;
@@ -79,7 +80,7 @@ pub struct PlannerTick {
     pub run: Run,
 }
 
-// The finish of a whole run; 0 beside a refusal.
+// The finish of a whole run, or of a log; 0 beside a refusal.
 #[repr(C)]
 pub struct PlannerFinish {
     pub number: u32,
@@ -277,6 +278,23 @@ pub fn coded_play(played: Played) -> PlannerFinish
             finish: finish.0,
         },
         Played::Refused(refusal) => PlannerFinish {
+            number: refusal.number,
+            place: refusal.place,
+            finish: 0,
+        },
+    }
+}
+
+pub fn coded_replay(replayed: Replayed) -> PlannerFinish
+    ensures { λ r. ⌜ r ≡ codedReplay replayed ⌝ }
+{
+    match replayed {
+        Replayed::Finish(last) => PlannerFinish {
+            number: 0,
+            place: 0,
+            finish: last.0,
+        },
+        Replayed::Refused(refusal) => PlannerFinish {
             number: refusal.number,
             place: refusal.place,
             finish: 0,

@@ -1,8 +1,8 @@
 -- What a whole run computes is what the words mean: the finish instants and the finish of the list schedule.
 use mathlib.Core.Path.{_≡_, sym, _∙_}
-use mathlib.Core.Logic.{_⊎_, inl, inr, ⊎-elim}
+use mathlib.Core.Logic.{⊎-elim}
 use mathlib.Core.Bool.{Bool, true}
-use Prim.Native.Nat.{ℕ, zero, suc, _+_, _*_, _≤_, _<_}
+use Prim.Native.Nat.{ℕ, _*_, _≤_, _<_}
 use native.Mathlib.Omega.{arith}
 use lib.Dec.{leb}
 use borrow.Author.Tests.{le-leb, lt-leb}
@@ -14,10 +14,8 @@ use Rattle.model.specs.Schedule.{Schedule, left, Times, Finished, FinishOf, All
 use Rattle.model.specs.ListSchedule.{begin, steps, listSchedule}
 use Rattle.model.proofs.Bools.{clash, le-or-lt}
 use Rattle.model.proofs.Places.{every-at, every-intro}
-use Rattle.model.proofs.Cycles.{ranked}
-use Rattle.model.proofs.Finished.{all-finished-or, fin-step}
 use Rattle.model.proofs.Tests.{finished-tells}
-use Rattle.model.proofs.Tick.{progress}
+use Rattle.model.proofs.Tick.{all-by}
 use Rattle.model.proofs.Listed.{left-steps, list-works, list-demand-3}
 use Rattle.model.proofs.Places.{first-le, first-below, first-here}
 use Rattle.leaps.specs.Finishes.{doneAt, finishAt, finishOf}
@@ -34,27 +32,10 @@ module _ {G : Graph} (W : WellFormed G) (A : Acyclic G) (e : ℕ → ℕ) where
   unfolding doneAt
   tells t v l f = finished-tells W (steps G t (begin e) .rest) A .complete v l (rw (left-steps G e t) at f)
 
-  -- a tick in which not all is finished leaves one tick less in all
-  all-or-less : (t : ℕ) → AllFinished G S t ⊎ (t + sum (left S t) (G .n) ≤ sum e (G .n))
-  unfolding left listSchedule
-  all-or-less zero = inr (omega arith)
-  all-or-less (suc t) = go (all-finished-or W (left S t) (ranked W A)) (all-or-less t)
-    where
-      go : AllFinished G S t ⊎ ((v : ℕ) × (v < G .n) × (Finished G (left S t) v → ⊥)) → AllFinished G S t ⊎ (t + sum (left S t) (G .n) ≤ sum e (G .n))
-          → AllFinished G S (suc t) ⊎ (suc t + sum (left S (suc t)) (G .n) ≤ sum e (G .n))
-      go (inl a) ih = inl (λ v l. fin-step S t (a v l))
-      go (inr r) (inl a) = absurd (r .2 (a (r .0) (r .1)))
-      go (inr r) (inr h) = inr (omega (arith, h, progress W A (list-works W A e) t (r .0) (r .1) (r .2)))
-
-  -- so all is finished when as many ticks have gone by as there were in all
-  all-by : AllFinished G S (sum e (G .n))
-  all-by = go (all-finished-or W (left S (sum e (G .n))) (ranked W A)) (all-or-less (sum e (G .n)))
-    where
-      go : AllFinished G S (sum e (G .n)) ⊎ ((v : ℕ) × (v < G .n) × (Finished G (left S (sum e (G .n))) v → ⊥))
-          → AllFinished G S (sum e (G .n)) ⊎ (sum e (G .n) + sum (left S (sum e (G .n))) (G .n) ≤ sum e (G .n)) → AllFinished G S (sum e (G .n))
-      go (inl a) x = a
-      go (inr r) (inl a) = a
-      go (inr r) (inr h) = absurd (omega (arith, h, progress W A (list-works W A e) (sum e (G .n)) (r .0) (r .1) (r .2)))
+  -- all is finished when as many ticks have gone by as there were in all
+  all-ended : AllFinished G S (sum e (G .n))
+  unfolding listSchedule
+  all-ended = all-by W A (list-works W A e)
 
   -- THEOREM. The instant of each vertex is its finish instant in the list schedule.
   pub finish-of-vertex : (v : ℕ) → v < G .n → FinishOf G S v (finishAt G e v)
@@ -62,7 +43,7 @@ module _ {G : Graph} (W : WellFormed G) (A : Acyclic G) (e : ℕ → ℕ) where
   finish-of-vertex v l = record {
     there = ⊎-elim
         (λ (h : sum e (G .n) ≤ first p (sum e (G .n))).
-        let q : first p (sum e (G .n)) ≡ sum e (G .n) = omega (arith, first-le p (sum e (G .n))) in rw q (all-by v l))
+        let q : first p (sum e (G .n)) ≡ sum e (G .n) = omega (arith, first-le p (sum e (G .n))) in rw q (all-ended v l))
         (λ (h : first p (sum e (G .n)) < sum e (G .n)). told (first p (sum e (G .n))) v l (first-here p (sum e (G .n)) h))
         (le-or-lt (sum e (G .n)) (first p (sum e (G .n))));
     first = λ t h f. clash (tells t v l f) (first-below p (sum e (G .n)) t h);
@@ -77,7 +58,7 @@ module _ {G : Graph} (W : WellFormed G) (A : Acyclic G) (e : ℕ → ℕ) where
   finish-of-all = record {
     all = ⊎-elim
         (λ (h : sum e (G .n) ≤ first p (sum e (G .n))).
-        let q : first p (sum e (G .n)) ≡ sum e (G .n) = omega (arith, first-le p (sum e (G .n))) in rw q all-by)
+        let q : first p (sum e (G .n)) ≡ sum e (G .n) = omega (arith, first-le p (sum e (G .n))) in rw q all-ended)
         (λ (h : first p (sum e (G .n)) < sum e (G .n)).
         λ v l. told (first p (sum e (G .n))) v l (every-at (doneAt G e (first p (sum e (G .n)))) (G .n) (first-here p (sum e (G .n)) h) v l))
         (le-or-lt (sum e (G .n)) (first p (sum e (G .n))));

@@ -35,6 +35,10 @@ pub not-is-true : (b : Bool) → not b ≡ true → b ≡ false
 not-is-true true e = absurd (clash e refl)
 not-is-true false e = refl
 
+pub not-false : (b : Bool) → not b ≡ false → b ≡ true
+not-false true e = refl
+not-false false e = absurd (clash refl e)
+
 pub both : (a b : Bool) → a ≡ true → b ≡ true → a && b ≡ true
 both true b p q = q
 both false b p q = absurd (clash p refl)
@@ -46,6 +50,11 @@ left-of false b e = e
 pub right-of : (a b : Bool) → a && b ≡ true → b ≡ true
 right-of true b e = e
 right-of false b e = absurd (clash e refl)
+
+-- of two that do not both hold: where the first does, the second does not
+pub not-second : (a b : Bool) → a && b ≡ false → a ≡ true → b ≡ false
+not-second true b e p = e
+not-second false b e p = absurd (clash p refl)
 
 pub or-left : (a b : Bool) → a ≡ true → a || b ≡ true
 or-left true b e = refl

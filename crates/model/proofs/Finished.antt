@@ -54,6 +54,18 @@ left-step S t v = omega arith
 pub fin-step : {G : Graph} (S : Schedule) (t : ℕ) {v : ℕ} → Finished G (left S t) v → Finished G (left S (suc t)) v
 fin-step S t x = fin-less (left-step S t) x
 
+-- what is left never grows, so what is finished stays finished
+pub left-later : (S : Schedule) (a t v : ℕ) → a ≤ t → left S t v ≤ left S a v
+left-later S a zero v h = let e : a ≡ 0 = omega arith in rw e (omega arith)
+left-later S a (suc t) v h = go (ℕ-discrete a (suc t)) (λ m. left-later S a t v m)
+  where
+    go : Dec (a ≡ suc t) → (a ≤ t → left S t v ≤ left S a v) → left S (suc t) v ≤ left S a v
+    go (yes e) ih = rw e (omega arith)
+    go (no e) ih = omega (arith, left-step S t v, ih (omega arith))
+
+pub fin-later : {G : Graph} (S : Schedule) (a t : ℕ) {v : ℕ} → a ≤ t → Finished G (left S a) v → Finished G (left S t) v
+fin-later S a t h x = fin-less (λ u. left-later S a t u h) x
+
 -- what runs has a tick less to go
 pub left-run : {G : Graph} (S : Schedule) (t : ℕ) {v : ℕ} → Ready G (left S t) v → S .runs t v ≡ true → left S (suc t) v + 1 ≤ left S t v
 unfolding left

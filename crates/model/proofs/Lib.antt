@@ -5,6 +5,7 @@ pub mod Bools
 pub mod Places
 pub mod Sums
 pub mod Tables
+pub mod That
 pub mod Turns
 pub mod Written
 -- Graphs: cycles and ranks, paths, the largest sum along a path:

@@ -1,25 +1,24 @@
 -- The list schedule is work conserving, while work remains someone runs, and it ends.
-use mathlib.Core.Path.{_≡_, refl, ap, sym, _∙_, fun-ext}
-use mathlib.Core.Logic.{_⊎_, inl, inr}
+use mathlib.Core.Path.{_≡_, refl, ap, _∙_, fun-ext}
 use mathlib.Core.Bool.{Bool, true, false, not, _&&_, _||_}
-use Prim.Native.Nat.{ℕ, zero, suc, _+_, _-_, _*_, _≤_, _<_, zero-le, min}
+use Prim.Native.Nat.{ℕ, zero, suc, _+_, _-_, _≤_, _<_, min}
 use native.Mathlib.Omega.{arith}
 use native.Mathlib.Decide.{ℕ-discrete}
 use lib.Dec.{eqb, ltb}
-use borrow.Author.Tests.{eq-eqb, ne-eqb, eqb-true}
+use borrow.Author.Tests.{eq-eqb, ne-eqb}
 use Rattle.model.specs.Places.{pick, bit, sum, count, Tells}
 use Rattle.model.specs.Graph.{Graph, WellFormed}
 use Rattle.model.specs.Cycle.{Acyclic}
-use Rattle.model.specs.Bounds.{NewB1, PARTS}
-use Rattle.model.specs.Schedule.{Schedule, left, Finished, Ready, Times, WorkConserving, AllFinished, Finish, EndsBy}
-use Rattle.model.specs.ListSchedule.{ready, State, goesOn, waits, chosen, leap, step, begin, steps, listSchedule, Fair}
-use Rattle.model.proofs.Bools.{both, left-of, right-of, clash}
+use Rattle.model.specs.Bounds.{NewB1}
+use Rattle.model.specs.Schedule.{Schedule, left, Finished, Ready, Times, WorkConserving, Finish, EndsBy}
+use Rattle.model.specs.ListSchedule.{ready, State, goesOn, waits, chosen, leap, begin, steps, listSchedule, Fair}
+use Rattle.model.proofs.Bools.{both, left-of, right-of}
 use Rattle.model.proofs.Places.{count-ext, count-sub, count-none, count-split, count-firsts, count-some, some-counted}
 use Rattle.model.proofs.Cycles.{ranked}
 use Rattle.model.proofs.Paths.{head-known, to-sink}
-use Rattle.model.proofs.Finished.{to-ready, all-finished-or}
+use Rattle.model.proofs.Finished.{to-ready}
 use Rattle.model.proofs.Tests.{ready-tells, tells-same}
-use Rattle.model.proofs.Tick.{progress}
+use Rattle.model.proofs.Tick.{all-by}
 use Rattle.model.proofs.Demand3.{finish-by, demand-3}
 
 -- ---- how many are chosen
@@ -152,16 +151,7 @@ some-chosen {G} W A s f v l x =
 
 -- THEOREM. Every work-conserving schedule ends, whatever the times; so the list schedule does.
 pub ends : {G : Graph} → WellFormed G → Acyclic G → {S : Schedule} → WorkConserving G S → (F : ℕ) × Finish G S F
-ends {G} W A {S} C = let r = down (suc (sum (left S 0) (G .n))) 0 (omega arith) in finish-by W A S (r .0) (r .1)
-  where
-    down : (k t : ℕ) → sum (left S t) (G .n) < k → (T : ℕ) × AllFinished G S T
-    down zero t l = absurd (omega arith)
-    down (suc k) t l = go (all-finished-or W (left S t) (ranked W A)) (λ q. down k (suc t) q)
-      where
-        go : AllFinished G S t ⊎ ((v : ℕ) × (v < G .n) × (Finished G (left S t) v → ⊥)) → (sum (left S (suc t)) (G .n) < k → (T : ℕ) × AllFinished G S T)
-            → (T : ℕ) × AllFinished G S T
-        go (inl a) ih = (t, a)
-        go (inr r) ih = ih (omega (arith, progress W A C t (r .0) (r .1) (r .2)))
+ends {G} W A {S} C = finish-by W A S (sum (S .time) (G .n)) (all-by W A C)
 
 pub list-ends : {G : Graph} → WellFormed G → Acyclic G → (e : ℕ → ℕ) → (F : ℕ) × Finish G (listSchedule G e) F
 list-ends W A e = ends W A (list-works W A e)

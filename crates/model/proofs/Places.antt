@@ -98,6 +98,12 @@ pub first-found : (p : ℕ → Bool) (n k : ℕ) → k < n → p k ≡ true → 
 first-found p n k l e =
     ⊎-elim (λ (h : n ≤ first p n). absurd (clash e (first-below p n k (omega arith)))) (λ h. h) (le-or-lt n (first p n))
 
+pub first-ext : (p q : ℕ → Bool) (n : ℕ) → ((i : ℕ) → i < n → p i ≡ q i) → first p n ≡ first q n
+unfolding first
+first-ext p q zero h = refl
+first-ext p q (suc n) h =
+    ap₂ (λ (b : Bool) (x : ℕ). pick b 0 (suc x)) (h 0 (omega arith)) (first-ext (λ k. p (suc k)) (λ k. q (suc k)) n (λ i l. h (suc i) (omega arith)))
+
 -- ---- `count`
 
 pub count-more : (p : ℕ → Bool) (n : ℕ) → count p (n + 1) ≡ count p n + bit (p n)
@@ -149,6 +155,17 @@ count-less p q h (suc n) l sub there off = go (ℕ-discrete h n) (λ k. count-le
     go (yes e) ih =
         omega (arith, count-sub p q n (λ v m. sub v (omega arith)), bit-zero (p n) (rw (← e) off), bit-one (q n) (rw (← e) there))
     go (no e) ih = omega (arith, ih (omega arith), bit-mono (p n) (q n) (sub n (omega arith)))
+
+-- just once more often, where the two differ at h alone
+pub count-put : (p q : ℕ → Bool) (h n : ℕ) → h < n → ((v : ℕ) → v < n → (v ≡ h → ⊥) → p v ≡ q v) → p h ≡ false → q h ≡ true → count q n ≡ count p n + 1
+unfolding count
+count-put p q h zero l same off there = absurd (omega arith)
+count-put p q h (suc n) l same off there = go (ℕ-discrete h n) (λ m. count-put p q h n m (λ v b x. same v (omega arith) x) off there)
+  where
+    go : Dec (h ≡ n) → (h < n → count q n ≡ count p n + 1) → count q n + bit (q n) ≡ count p n + bit (p n) + 1
+    go (yes e) ih =
+        omega (arith, bit-one (q n) (rw e at there), bit-zero (p n) (rw e at off), count-ext p q n (λ v b. same v (omega arith) (λ x. omega arith)))
+    go (no x) ih = omega (arith, ih (omega arith), ap bit (same n (omega arith) (λ e. omega arith)))
 
 pub count-none : (p : ℕ → Bool) (n : ℕ) → ((i : ℕ) → i < n → p i ≡ false) → count p n ≡ 0
 unfolding count

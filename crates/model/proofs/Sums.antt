@@ -116,6 +116,12 @@ pub largest-more : (f : ℕ → ℕ) (n : ℕ) → largest f (n + 1) ≡ max (la
 unfolding largest
 largest-more f n = rw add-one refl
 
+-- where none is above c, the largest is not
+pub largest-within : (f : ℕ → ℕ) (c n : ℕ) → ((v : ℕ) → v < n → f v ≤ c) → largest f n ≤ c
+unfolding largest
+largest-within f c zero h = zero-le
+largest-within f c (suc n) h = omega (arith, largest-within f c n (λ v l. h v (omega arith)), h n (omega arith))
+
 -- it is 0, or one of them
 pub largest-is : (f : ℕ → ℕ) (n : ℕ) → (largest f n ≡ 0) ⊎ ((v : ℕ) × (v < n) × (largest f n ≡ f v))
 unfolding largest

@@ -2,22 +2,22 @@
 use mathlib.Core.Path.{_≡_, refl}
 use mathlib.Core.Logic.{_⊎_, inl, inr}
 use mathlib.Core.Bool.{Bool, true, false, _&&_}
-use Prim.Native.Nat.{ℕ, zero, suc, _+_, _-_, _*_, _/_, _≤_, _<_}
+use Prim.Native.Nat.{ℕ, zero, suc, _+_, _*_, _/_, _≤_, _<_}
 use native.Mathlib.Nat.{mul-le-mul-right, div-self}
 use native.Mathlib.Omega.{arith}
 use lib.Dec.{eqb}
 use borrow.Author.Tests.{eq-eqb, eqb-true}
-use Rattle.model.specs.Places.{sum, bit, count, Tells}
+use Rattle.model.specs.Places.{sum, bit, count}
 use Rattle.model.specs.Graph.{Graph, WellFormed}
 use Rattle.model.specs.Cycle.{Acyclic}
-use Rattle.model.specs.Schedule.{Schedule, left, Finished, Ready, WorkConserving, Finish, AllFinished}
+use Rattle.model.specs.Schedule.{Schedule, left, Finished, Ready, WorkConserving, AllFinished}
 use Rattle.model.specs.ListSchedule.{ready}
 use Rattle.model.proofs.Bools.{cases, clash, both, left-of, right-of, bit-one, bit-zero, not-true}
 use Rattle.model.proofs.Places.{count-less}
 use Rattle.model.proofs.Sums.{sum-drop, sum-drop-count, sum-ext}
 use Rattle.model.proofs.Cycles.{ranked}
 use Rattle.model.proofs.Paths.{head-known, to-sink}
-use Rattle.model.proofs.Finished.{left-step, left-run, to-ready}
+use Rattle.model.proofs.Finished.{left-step, left-run, to-ready, fin-step, all-finished-or}
 use Rattle.model.proofs.Tests.{ready-tells}
 
 pub less : (a b c : ℕ) → a + 1 ≤ b → a * c + c ≤ b * c
@@ -95,3 +95,26 @@ progress {G} W A {S} C t v l x =
     let d = to-sink W R v l in
     let r = to-ready W (left S t) R v (d .0) (d .1) x in
     moves W A C t (r .top) (r .has) (head-known W (r .path))
+
+-- THEOREM. When as many ticks have gone by as there are in all, all is finished in a work-conserving schedule.
+module _ {G : Graph} (W : WellFormed G) (A : Acyclic G) {S : Schedule} (C : WorkConserving G S) where
+  all-or-less : (t : ℕ) → AllFinished G S t ⊎ (t + sum (left S t) (G .n) ≤ sum (S .time) (G .n))
+  unfolding left
+  all-or-less zero = inr (omega arith)
+  all-or-less (suc t) = go (all-finished-or W (left S t) (ranked W A)) (all-or-less t)
+    where
+      go : AllFinished G S t ⊎ ((v : ℕ) × (v < G .n) × (Finished G (left S t) v → ⊥)) → AllFinished G S t ⊎ (t + sum (left S t) (G .n) ≤ sum (S .time) (G .n))
+          → AllFinished G S (suc t) ⊎ (suc t + sum (left S (suc t)) (G .n) ≤ sum (S .time) (G .n))
+      go (inl a) ih = inl (λ v l. fin-step S t (a v l))
+      go (inr r) (inl a) = absurd (r .2 (a (r .0) (r .1)))
+      go (inr r) (inr h) = inr (omega (arith, h, progress W A C t (r .0) (r .1) (r .2)))
+
+  pub all-by : AllFinished G S (sum (S .time) (G .n))
+  all-by = go (all-finished-or W (left S (sum (S .time) (G .n))) (ranked W A)) (all-or-less (sum (S .time) (G .n)))
+    where
+      go : AllFinished G S (sum (S .time) (G .n)) ⊎ ((v : ℕ) × (v < G .n) × (Finished G (left S (sum (S .time) (G .n))) v → ⊥))
+          → AllFinished G S (sum (S .time) (G .n)) ⊎ (sum (S .time) (G .n) + sum (left S (sum (S .time) (G .n))) (G .n) ≤ sum (S .time) (G .n))
+          → AllFinished G S (sum (S .time) (G .n))
+      go (inl a) x = a
+      go (inr r) (inl a) = a
+      go (inr r) (inr h) = absurd (omega (arith, h, progress W A C (sum (S .time) (G .n)) (r .0) (r .1) (r .2)))

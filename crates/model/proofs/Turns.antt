@@ -13,7 +13,7 @@ use lib.Seq.{ext-getD, getD-set-same, getD-set-other}
 use borrow.Author.Tests.{eq-eqb, ne-eqb}
 use Rattle.model.specs.Places.{pick, every, sum, count, table, padded}
 use Rattle.model.proofs.Bools.{le-or-lt}
-use Rattle.model.proofs.Places.{count-not-there}
+use Rattle.model.proofs.Places.{count-there, count-not-there, count-none}
 use Rattle.model.proofs.Tables.{table-length, table-at, padded-length, padded-at, padded-past}
 
 pub every-none : (p : ℕ → Bool) → every p 0 ≡ true
@@ -41,6 +41,13 @@ count-past p n (suc m) l h = go (ℕ-discrete n (suc m)) (λ k. count-past p n m
     go : Dec (n ≡ suc m) → (n ≤ m → count p m ≡ count p n) → count p (suc m) ≡ count p n
     go (yes e) ih = rw e refl
     go (no e) ih = count-not-there p m (h m (omega arith) (omega arith)) ∙ ih (omega arith)
+
+-- a test that holds from one place on, for d places, and at none before
+pub count-from : (p : ℕ → Bool) (a d : ℕ) → ((v : ℕ) → v < a → p v ≡ false) → ((v : ℕ) → a ≤ v → v < a + d → p v ≡ true) → count p (a + d) ≡ d
+count-from p a zero off on = let e : a + 0 ≡ a = omega arith in rw e (count-none p a off)
+count-from p a (suc d) off on =
+    let e : a + suc d ≡ suc (a + d) = omega arith in
+    rw e (omega (arith, count-there p (a + d) (on (a + d) (omega arith) (omega arith)), count-from p a d off (λ v l h. on v l (omega arith))))
 
 pub sum-past : (f : ℕ → ℕ) (n m : ℕ) → n ≤ m → ((v : ℕ) → n ≤ v → v < m → f v ≡ 0) → sum f m ≡ sum f n
 unfolding sum

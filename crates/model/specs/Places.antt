@@ -12,6 +12,7 @@
 --   largest f n     the largest of f 0 .. f (n - 1), or 0 where n is 0
 --   table f n       the list f 0, .. , f (n - 1)
 --   padded l f n    the same, with zeros up to the length l
+--   that p n        the places below n at which p holds, in ascending order
 --   along f p       the sum of f over the list p
 --   Tells n A p     below n, the test p holds exactly where A does
 use mathlib.Core.Path.{_≡_}
@@ -58,6 +59,10 @@ table f (suc n) = table f n ++ (f n ∷ [])
 
 unfoldable pub padded : ℕ → (ℕ → ℕ) → ℕ → List ℕ
 padded l f n = table f n ++ replicate (l - n) 0
+
+unfoldable pub that : (ℕ → Bool) → ℕ → List ℕ
+that p zero = []
+that p (suc n) = that p n ++ pick (p n) (n ∷ []) []
 
 unfoldable pub along : (ℕ → ℕ) → List ℕ → ℕ
 along f [] = 0

@@ -20,13 +20,19 @@ const GAINS_ALTERED: u8 = 6;
 
 const LATE: u8 = 7;
 
-const HELP: u8 = 8;
+const REPLAY: u8 = 8;
 
-const VERSION: u8 = 9;
+const LOG: u8 = 9;
 
-const FILE: u8 = 10;
+const LOG_TIMED: u8 = 10;
 
-const UNKNOWN: u8 = 11;
+const HELP: u8 = 252;
+
+const VERSION: u8 = 253;
+
+const FILE: u8 = 254;
+
+const UNKNOWN: u8 = 255;
 
 // Which word stands first, where there are as many arguments as it takes, the command's own name among them.
 fn number(word: &[u8], n: usize) -> u8 {
@@ -60,6 +66,18 @@ fn number(word: &[u8], n: usize) -> u8 {
     if texts::equal(word, b"late") {
         return if n == 5 { LATE } else { UNKNOWN };
     }
+    if texts::equal(word, b"replay") {
+        return if n == 4 { REPLAY } else { UNKNOWN };
+    }
+    if texts::equal(word, b"log") {
+        return if n == 3 {
+            LOG
+        } else if n == 4 {
+            LOG_TIMED
+        } else {
+            UNKNOWN
+        };
+    }
     if n != 2 {
         return UNKNOWN;
     }
@@ -87,13 +105,16 @@ fn answered(word: u8, t: &[u8], names: Names, g: Graph, file: &[u8]) -> u8
     requires { ⌜ AcceptedGraph g ⌝ }
 {
     match word {
-        1 => answers::run::full(t, names, g, file),
-        2 => answers::run::timed(t, names, g, file),
+        1 => answers_runs::run::full(t, names, g, file),
+        2 => answers_runs::run::timed(t, names, g, file),
         3 => answers::text::file(file),
         4 => answers::text::answer(t, names, g),
         5 => answers_gains::full(t, names, g),
         6 => answers_gains::altered(t, names, g, file),
-        7 => answers::by_tick::timed(t, names, g, file),
+        7 => answers_runs::by_tick::timed(t, names, g, file),
+        8 => answers_runs::recorded::replayed(t, names, g, file),
+        9 => answers_runs::recorded::full(t, g, file),
+        10 => answers_runs::recorded::timed(t, names, g, file),
         _ => answers::sheet::answer(t, names, g),
     }
 }
@@ -132,6 +153,11 @@ fn read(word: u8, k: usize) -> u8 {
     judged(word, k, texts::part(&space, 0, got.n))
 }
 
+// Whether argument 3 names something to be read as well.
+fn has_two(word: u8) -> bool {
+    (word == RUN_TIMED) | (word == LATE) | (word == REPLAY) | (word == LOG_TIMED)
+}
+
 fn row(word: u8) -> u8 {
     if word == UNKNOWN {
         return input::wrong(b"not a word of the command, or not so many words");
@@ -142,8 +168,8 @@ fn row(word: u8) -> u8 {
     if word == VERSION {
         return input::status(say::help::version(), input::ANSWER);
     }
-    if ((word == RUN_TIMED) | (word == LATE)) & input::is_standard(2) & input::is_standard(3) {
-        return input::wrong(b"standard input can't be the graph and the times");
+    if has_two(word) & input::is_standard(2) & input::is_standard(3) {
+        return input::wrong(b"standard input can't be the graph and what goes with it");
     }
     read(word, if word == FILE { 1 } else { 2 })
 }

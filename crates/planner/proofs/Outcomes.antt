@@ -39,6 +39,10 @@ use Rattle.planner.proofs.planner_tick.Reads as tick-reads
 use Rattle.planner.proofs.planner_tick_in_place as tick-in-place
 use Rattle.planner.proofs.planner_run as run
 use Rattle.planner.proofs.planner_run.Reads as run-reads
+use Rattle.planner.proofs.planner_replay as replay
+use Rattle.planner.proofs.planner_replay.Reads as replay-reads
+use Rattle.planner.proofs.planner_log as log
+use Rattle.planner.proofs.planner_log.Reads as log-reads
 
 pub planner-read-one : OneOutcome read.ended read-reads.Pre read-reads.Post
 planner-read-one κs a r r′ ws ws′ pre p q = (p ∙ sym q, refl)
@@ -105,3 +109,9 @@ planner-tick-in-place-stated = record {
 
 pub planner-tick-in-place-one : OneOutcome tick-in-place.ended (λ κs a. Unit {0}) (planner-tick-in-place-stated .post)
 planner-tick-in-place-one κs a r r′ ws ws′ pre p q = (p .1 ∙ sym (q .1), λ i. ((p .0 ∙ sym (q .0)) i, ws .1))
+
+pub planner-replay-one : OneOutcome replay.ended replay-reads.Pre replay-reads.Post
+planner-replay-one κs a r r′ ws ws′ pre p q = (p .0 ∙ sym (q .0), λ i. (tt, (tt, ((p .1 ∙ sym (q .1)) i, tt))))
+
+pub planner-log-one : OneOutcome log.ended log-reads.Pre log-reads.Post
+planner-log-one κs a r r′ ws ws′ pre p q = (p .0 ∙ sym (q .0), λ i. (tt, (tt, ((p .1 ∙ sym (q .1)) i, tt))))

@@ -8,8 +8,10 @@ ghost use Rattle.writer.specs.Write.{wroteOf, roomAfter};
 ghost use Rattle.schedule.specs.Start.{startOf};
 ghost use Rattle.schedule.specs.Tick.{tickOf};
 ghost use Rattle.schedule.specs.Whole.{playOf, finishesOf};
+ghost use Rattle.replay.specs.Answers.{replayOf, timesAfter};
+ghost use Rattle.logs.specs.Answers.{loggedOf, logRoom};
 ghost use Rattle.codes.specs.Coded.{codedGraph, codedWrote, BoundsCoded, SecondCoded, PathCoded, GainsCoded, AlteredCoded};
-ghost use Rattle.codes.specs.CodedRun.{codedStart, codedReport, codedTick, codedPlay, LateCoded};
+ghost use Rattle.codes.specs.CodedRun.{codedStart, codedReport, codedTick, codedPlay, codedReplay, LateCoded};
 ghost use Rattle.planner.specs.Stepped.{codedStep};
 use codes::PlannerBounds;
 use codes::PlannerCount;
@@ -26,6 +28,7 @@ use codes::coded_graph;
 use codes::coded_late;
 use codes::coded_path;
 use codes::coded_play;
+use codes::coded_replay;
 use codes::coded_report;
 use codes::coded_second;
 use codes::coded_start;
@@ -119,6 +122,20 @@ pub extern "C" fn planner_late(file: &[u8], times: &[u32], d: u32) -> PlannerLat
     ensures { λ r. ⌜ LateCoded (now (file .entry)) (now (times .entry)) d r ⌝ }
 {
     coded_late(late::late(file, times, d))
+}
+
+#[no_mangle]
+pub extern "C" fn planner_replay(file: &[u8], log: &[u8], times: &mut [u32]) -> PlannerFinish
+    ensures { λ r. ⌜ (r ≡ codedReplay (replayOf (now (file .entry)) (now (log .entry)) (length (now (times .entry))))) × (now (times .exit) ≡ timesAfter (now (file .entry)) (now (log .entry)) (now (times .entry))) ⌝ }
+{
+    coded_replay(replay::replay(file, log, times))
+}
+
+#[no_mangle]
+pub extern "C" fn planner_log(file: &[u8], times: &[u32], log: &mut [u8]) -> PlannerCount
+    ensures { λ r. ⌜ (r ≡ codedWrote (loggedOf (now (file .entry)) (now (times .entry)) (length (now (log .entry))))) × (now (log .exit) ≡ logRoom (now (file .entry)) (now (times .entry)) (now (log .entry))) ⌝ }
+{
+    coded_wrote(logs::log(file, times, log))
 }
 
 // What the entry below stores, and what it hands back.

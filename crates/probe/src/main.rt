@@ -44,6 +44,8 @@ fn answer(letter: u8, p: &[u8]) {
         b'I' => probe_runs::tick_request(p, true),
         b'D' => probe_runs::late_request(p),
         b'X' => probe_runs::run_request(p),
+        b'L' => probe_logs::replay_request(p),
+        b'O' => probe_logs::log_request(p),
         _ => print::bad(),
     }
 }
@@ -73,7 +75,7 @@ fn turn(space: &mut [u8]) -> bool {
         return false;
     }
     let long = wire::payload(head);
-    if long > 65536 {
+    if long > 262144 {
         let more = skip(long, space);
         print::bad();
         return more;
@@ -93,6 +95,6 @@ fn requests(space: &mut [u8]) {
 }
 
 fn main() {
-    let mut space = [0u8; 65536];
+    let mut space = [0u8; 262144];
     requests(&mut space);
 }

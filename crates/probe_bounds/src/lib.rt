@@ -75,12 +75,12 @@ pub fn path_request(p: &[u8]) {
     if !(f.good & room.good & (room.end == p.len())) {
         return print::bad();
     }
-    if room.value > 16384 {
+    if room.value > 32768 {
         return print::bad();
     }
     let start = f.start;
     let end = f.end;
     let places = room.value as usize;
-    let mut lent = [PRESET; 16384];
+    let mut lent = [PRESET; 32768];
     path(&p[start..end], &mut lent[0..places])
 }

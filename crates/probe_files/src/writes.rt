@@ -15,22 +15,23 @@ fn answer(cores: &[u8], kinds: &[u8], wcets: &[u32], edges: &[u16], lent: &mut [
     print::lent_bytes(lent)
 }
 
-// The WCETs, the edges and the room, laid in lists of their own.
-fn write_with(cores: &[u8], kinds: &[u8], wcets: &[u8], edges: &[u8], room: usize)
-    requires { ⌜ room ≤ 16384 ⌝ }
+// The edges and the room, laid in lists of their own.
+fn write_edges(cores: &[u8], kinds: &[u8], wcets: &[u32], edges: &[u8], room: usize)
+    requires { ⌜ room ≤ 32768 ⌝ }
 {
-    let mut words = [0u32; 16384];
-    let mut halves = [0u16; 32768];
-    let mut lent = [PRESET; 16384];
-    let n = wire::words(wcets, &mut words);
+    let mut halves = [0u16; 131072];
+    let mut lent = [PRESET; 32768];
     let e = wire::halves(edges, &mut halves);
-    answer(
-        cores,
-        kinds,
-        &words[0..n],
-        &halves[0..e],
-        &mut lent[0..room],
-    )
+    answer(cores, kinds, wcets, &halves[0..e], &mut lent[0..room])
+}
+
+// The WCETs too.
+fn write_with(cores: &[u8], kinds: &[u8], wcets: &[u8], edges: &[u8], room: usize)
+    requires { ⌜ room ≤ 32768 ⌝ }
+{
+    let mut words = [0u32; 65536];
+    let n = wire::words(wcets, &mut words);
+    write_edges(cores, kinds, &words[0..n], edges, room)
 }
 
 // WCETs, edges and room stand from a place on, and nothing else.
@@ -43,7 +44,7 @@ fn write_from(p: &[u8], at: usize, cores: &[u8], kinds: &[u8]) {
     if !(cut & suit) {
         return print::bad();
     }
-    if room.value > 16384 {
+    if room.value > 32768 {
         return print::bad();
     }
     let wcets_start = wcets.start;

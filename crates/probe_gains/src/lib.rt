@@ -21,13 +21,13 @@ pub fn gains_request(p: &[u8]) {
     if !(f.good & room.good & (room.end == p.len())) {
         return print::bad();
     }
-    if room.value > 16384 {
+    if room.value > 32768 {
         return print::bad();
     }
     let start = f.start;
     let end = f.end;
     let places = room.value as usize;
-    let mut lent = [PRESET_LONG; 16384];
+    let mut lent = [PRESET_LONG; 32768];
     all(&p[start..end], &mut lent[0..places])
 }
 
@@ -50,11 +50,11 @@ fn altered_from(p: &[u8], at: usize, file: &[u8]) {
     if wcet.value > 4294967295 {
         return print::bad();
     }
-    if room.value > 16384 {
+    if room.value > 32768 {
         return print::bad();
     }
     let places = room.value as usize;
-    let mut lent = [PRESET_LONG; 16384];
+    let mut lent = [PRESET_LONG; 32768];
     altered(
         file,
         vertex.value as u32,

@@ -57,7 +57,7 @@ fn start(file: &[u8], times: &[u32]) {
 
 // The times of a payload, laid in a list of their own, and the start that they give.
 fn start_with(file: &[u8], times: &[u8]) {
-    let mut words = [0u32; 16384];
+    let mut words = [0u32; 65536];
     let n = wire::words(times, &mut words);
     start(file, &words[0..n])
 }
@@ -134,10 +134,10 @@ fn whole(file: &[u8], times: &[u32], lent: &mut [u32]) {
 
 // The same for a whole run, with a list of so many places lent to it.
 fn whole_with(file: &[u8], times: &[u8], room: usize)
-    requires { ⌜ room ≤ 16384 ⌝ }
+    requires { ⌜ room ≤ 32768 ⌝ }
 {
-    let mut words = [0u32; 16384];
-    let mut finishes = [PRESET_WORD; 16384];
+    let mut words = [0u32; 65536];
+    let mut finishes = [PRESET_WORD; 32768];
     let n = wire::words(times, &mut words);
     whole(file, &words[0..n], &mut finishes[0..room])
 }
@@ -150,7 +150,7 @@ pub fn run_request(p: &[u8]) {
     if !(cut & ((t.end - t.start) % 4 == 0)) {
         return print::bad();
     }
-    if room.value > 16384 {
+    if room.value > 32768 {
         return print::bad();
     }
     let file_start = f.start;
@@ -183,7 +183,7 @@ fn told(r: Lateness) {
 }
 
 fn late_with(file: &[u8], times: &[u8], d: u32) {
-    let mut words = [0u32; 16384];
+    let mut words = [0u32; 65536];
     let n = wire::words(times, &mut words);
     told(late::late(file, &words[0..n], d))
 }

@@ -1,5 +1,6 @@
-// What a text gets wrong and which line of a board text a refusal is about, and how it is said. Whether it could be written no contract can say.
+// What a text or a log gets wrong and which line of a board text a refusal is about, and how it is said. Whether it could be written no contract can say.
 pub mod fault;
+pub mod log;
 
 ghost use Prim.Native.Nat.{_≤_, _<_};
 use board::Names;

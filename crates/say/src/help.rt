@@ -13,6 +13,9 @@ pub fn page() -> bool {
   plan run FILE [TIMES]  a run: its finish, and each stage's finish instant
   plan late FILE TIMES D whether such a run ends by tick D, yes or no, and how
                          many ticks of it were played to see that
+  plan replay FILE LOG   a recorded frame: its finish, and how long each stage
+                         took, where the bounds cover it
+  plan log FILE [TIMES]  the log of a run, as a board would record it
   plan graph FILE        the graph file of a board text
   plan text FILE         the board text of a graph file
   plan help              this page

@@ -31,6 +31,6 @@ pub(crate) fn name(name: &[u8], letter: &[u8], i: usize) -> bool {
 }
 
 // What an answer calls stage v: its name, or its number where it has none.
-pub(crate) fn stage(t: &[u8], names: Names, v: usize) -> bool {
+pub fn stage(t: &[u8], names: Names, v: usize) -> bool {
     name(of_stage(t, names, v), b"", v)
 }

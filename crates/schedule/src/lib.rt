@@ -19,8 +19,6 @@ use tick::Ticked;
 use units::Ticks;
 use vset::Vset;
 
-mod lent; // lent.rt: the finish instants, handed over to the caller's list
-
 // The answer, and the record at instant 0; beside a refusal it is zero and unmarked throughout.
 pub struct Started {
     pub answer: Answer,

@@ -1,0 +1,6 @@
+-- Laws that belong to no one function.
+pub mod Gathering
+pub mod Handing
+pub mod Logging
+pub mod Accepting
+pub mod Outcomes

@@ -1,0 +1,3 @@
+-- What the entry answers; Keys is for private contracts alone.
+pub mod Answers
+pub mod Keys

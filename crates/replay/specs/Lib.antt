@@ -1,0 +1,4 @@
+-- What the entry gives.
+pub mod Answers
+-- What only private functions speak of.
+pub mod Steps
