@@ -105,7 +105,8 @@ static int differ_path_with(const struct input *in, size_t room) {
 }
 
 static int differ_record(const PlannerRecord *a, const struct plain_record *b) {
-    return a->n != b->n || a->instant != b->instant || memcmp(a->left, b->left, sizeof b->left) || memcmp(a->ran, b->ran, sizeof b->ran);
+    return a->n != b->n || a->instant != b->instant || memcmp(a->left, b->left, sizeof b->left) || memcmp(a->ran, b->ran, sizeof b->ran) ||
+           memcmp(a->waiting, b->waiting, sizeof b->waiting);
 }
 
 static int differ_start_with(const struct input *in, const uint32_t *times, size_t count) {
@@ -117,6 +118,7 @@ static int differ_start_with(const struct input *in, const uint32_t *times, size
 static struct plain_record as_plain(const PlannerRecord *run) {
     struct plain_record plain = {.n = run->n, .instant = run->instant, .ran = {run->ran[0], run->ran[1]}};
     memcpy(plain.left, run->left, sizeof plain.left);
+    memcpy(plain.waiting, run->waiting, sizeof plain.waiting);
     return plain;
 }
 
@@ -254,12 +256,15 @@ static int differ_ticks(const struct input *in, const uint32_t *times) {
     for (int i = 0; i < 4; i++)
         if (differ_tick_with(in, &run))
             return 1;
-    switch (below(6)) {
+    switch (below(9)) {
     case 0: run.n += 1 - 2 * below(2); break;
     case 1: run.instant = 128000001 - below(3); break;
     case 2: run.left[below(VERTICES)] ^= 1u << below(21); break;
     case 3: run.ran[below(2)] ^= (uint64_t)1 << below(64); break;
     case 4: run.instant = (uint64_t)-1 - below(1000); break;
+    case 5: run.waiting[below((uint32_t)in->n)]++; break;
+    case 6: run.waiting[below((uint32_t)in->n)]--; break;
+    case 7: run.waiting[below(VERTICES)] ^= (uint8_t)(1u << below(8)); break;
     default: run.left[below((uint32_t)in->n)] = 1; break;
     }
     return differ_tick_with(in, &run);
@@ -363,7 +368,7 @@ static void take_lists(struct input *in) {
 }
 
 /* The record halfway through the run in which every vertex takes its WCET. A vertex that has begun goes on to its end, so that the
-   finishes say where each one stands. Of a file that is refused the record says nothing. */
+   finishes say where each one stands, and who of its predecessors is unfinished. Of a file that is refused the record says nothing. */
 static PlannerRecord halfway(const struct input *in) {
     uint32_t finishes[VERTICES] = {0};
     uint64_t half = plain_run(in->file, in->length, in->times, in->n, finishes, VERTICES).finish / 2;
@@ -376,6 +381,11 @@ static PlannerRecord halfway(const struct input *in) {
             run.left[v] = (uint32_t)(finishes[v] - half);
             run.ran[v / 64] |= (uint64_t)1 << v % 64;
         }
+    }
+    for (size_t i = 0; i < in->edges; i++) {
+        size_t from = in->edge[i] >> 8, to = in->edge[i] & 255;
+        if (from < in->n && to < in->n && finishes[from] > half)
+            run.waiting[to]++;
     }
     return run;
 }
@@ -931,8 +941,31 @@ static int unfit(const struct input *in, size_t call) {
     return 1;
 }
 
-/* A line of the table for each call. The ratios are kept for the goals. */
+/* A line of the table, from nanoseconds; its ratio. Two times that are not above 0 have none: a difference of times may be anything. */
+static double print_line(const char *input, const char *call, double proved, double plain, int ratios_only) {
+    printf("| %s | %s |", input, call);
+    if (proved > 0 && plain > 0)
+        printf(" %.2f |", proved / plain);
+    else
+        printf(" - |");
+    if (!ratios_only)
+        printf(" %.2f | %.2f |", proved / 1e3, plain / 1e3);
+    printf("\n");
+    return proved / plain;
+}
+
+/* What a call takes beside the reading of its file: a difference of two times, so that a ratio of two of them would say little. */
+static void print_rest(const char *input, const char *call, double proved, double plain, int ratios_only) {
+    printf("| %s | %s less read | - |", input, call);
+    if (!ratios_only)
+        printf(" %.2f | %.2f |", proved / 1e3, plain / 1e3);
+    printf("\n");
+}
+
+/* A line of the table for each call. The ratios are kept for the goals. A tick reads the file first, and most of its time goes there: what it
+   takes more than a read of the same file has a line of its own. */
 static int compare(const struct row *row, int ratios_only, double *ratios) {
+    double read_proved = 0, read_plain = 0;
     for (size_t i = 0; i < CALLS; i++) {
         if (!is_timed(row, i))
             continue;
@@ -948,11 +981,13 @@ static int compare(const struct row *row, int ratios_only, double *ratios) {
         }
         proved /= (double)(proved_times * row->many);
         plain /= (double)(plain_times * row->many);
-        ratios[i] = proved / plain;
-        if (ratios_only)
-            printf("| %s | %s | %.2f |\n", row->inputs->name, calls[i].name, ratios[i]);
-        else
-            printf("| %s | %s | %.2f | %.2f | %.2f |\n", row->inputs->name, calls[i].name, ratios[i], proved / 1e3, plain / 1e3);
+        ratios[i] = print_line(row->inputs->name, calls[i].name, proved, plain, ratios_only);
+        if (calls[i].proved == proved_read) {
+            read_proved = proved;
+            read_plain = plain;
+        }
+        if (calls[i].proved == proved_tick)
+            print_rest(row->inputs->name, calls[i].name, proved - read_proved, plain - read_plain, ratios_only);
     }
     return 0;
 }

@@ -49,6 +49,7 @@ struct plain_record {
     uint64_t instant;
     uint32_t left[VERTICES];
     uint64_t ran[2]; /* bit v % 64 of word v / 64: v ran in the last tick and is unfinished */
+    uint8_t waiting[VERTICES]; /* how many predecessors of each vertex are unfinished */
 };
 
 /* `moved` is 1 where the tick moved the run; of a start it says nothing. */

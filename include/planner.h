@@ -65,8 +65,8 @@
 #define PLANNER_STACK_GAINS_ALTERED 16384
 #define PLANNER_STACK_SECOND 16384
 #define PLANNER_STACK_LATE 12288
-#define PLANNER_STACK_REPLAY 16384
-#define PLANNER_STACK_LOG 16384
+#define PLANNER_STACK_REPLAY 12288
+#define PLANNER_STACK_LOG 12288
 
 #ifdef __cplusplus
 #define PLANNER_SIZE(type, size) static_assert(sizeof(type) == (size), "the library lays " #type " out otherwise")
@@ -88,14 +88,17 @@ typedef struct PlannerLists {
 PLANNER_SIZE(PlannerLists, 2728);
 
 /* A run record. Places from n on are zero and unmarked. A caller may copy it, keep it and read it; one that was changed by hand either
-   still suits the graph or is refused with 16. */
+   still suits the graph or is refused with 16. The numbers in `waiting` follow from the rest: a start lays them down, every tick keeps them,
+   and a record in which one of them is wrong is refused with 16 too, also where the run is done. A vertex whose number is 0 is ready where it
+   has ticks left, and finished where it has none; with another number it is unfinished, also where it has none left. */
 typedef struct PlannerRecord {
-    size_t n;                             /* how many vertices */
-    uint64_t instant;                     /* ticks since the start */
-    uint32_t left[PLANNER_MOST_VERTICES]; /* the ticks that remain of each vertex */
-    uint64_t ran[2];                      /* bit v % 64 of word v / 64: v ran in the last tick and is unfinished */
+    size_t n;                               /* how many vertices */
+    uint64_t instant;                       /* ticks since the start */
+    uint32_t left[PLANNER_MOST_VERTICES];   /* the ticks that remain of each vertex */
+    uint64_t ran[2];                        /* bit v % 64 of word v / 64: v ran in the last tick and is unfinished */
+    uint8_t waiting[PLANNER_MOST_VERTICES]; /* how many predecessors of each vertex, one edge before it, are unfinished */
 } PlannerRecord;
-PLANNER_SIZE(PlannerRecord, 544);
+PLANNER_SIZE(PlannerRecord, 672);
 
 typedef struct PlannerGraph {
     uint32_t number;
@@ -125,7 +128,7 @@ typedef struct PlannerRun {
     uint32_t place;
     PlannerRecord run; /* zero and unmarked throughout beside a refusal */
 } PlannerRun;
-PLANNER_SIZE(PlannerRun, 552);
+PLANNER_SIZE(PlannerRun, 680);
 
 typedef struct PlannerMoved {
     uint32_t number;
@@ -140,7 +143,7 @@ typedef struct PlannerTick {
     uint32_t moved;    /* 1 moved; 0 done, or refused */
     PlannerRecord run; /* the record after the tick; where nothing moved, the one that was given */
 } PlannerTick;
-PLANNER_SIZE(PlannerTick, 560);
+PLANNER_SIZE(PlannerTick, 688);
 
 typedef struct PlannerFinish {
     uint32_t number;
@@ -186,8 +189,8 @@ PlannerCount planner_path(const uint8_t *file, size_t file_length, uint8_t *out,
 PlannerRun planner_start(const uint8_t *file, size_t file_length, const uint32_t *times, size_t times_length);
 
 /* One tick of the list schedule: takes a record and hands one back. A run whose vertices are all finished is done, and does not move; every
-   other tick moves, the one that ends the last vertex too. Refuses with 1 to 11, then 16 (the record doesn't suit this graph), and then
-   hands back the record it was given. */
+   other tick moves, the one that ends the last vertex too. Refuses with 1 to 11, then 16 (the record doesn't suit this graph, or its numbers
+   of unfinished predecessors are not those of its remainders), and then hands back the record it was given. */
 PlannerTick planner_tick(PlannerRecord run, const uint8_t *file, size_t file_length);
 
 /* The same tick, where the caller's record moves on where it stands. Where nothing moves, it holds what it held. */

@@ -31,6 +31,22 @@ static void note_finished(const PlannerRecord *run, uint32_t *finishes)
             finishes[v] = (uint32_t)run->instant;
 }
 
+/* How many predecessors each vertex still waits for, where that has changed. */
+static void print_waiting(const PlannerRecord *run, uint8_t *shown)
+{
+    int same = 1;
+    for (int v = 0; v < VERTICES; v++) {
+        same = same && shown[v] == run->waiting[v];
+        shown[v] = run->waiting[v];
+    }
+    if (same)
+        return;
+    printf("unfinished predecessors at %llu:", (unsigned long long)run->instant);
+    for (int v = 0; v < VERTICES; v++)
+        printf(" %u", (unsigned)shown[v]);
+    printf("\n");
+}
+
 /* The three vertices with the largest gains, the lower number first among equals. */
 static void print_best(const char *what, const uint64_t *gains)
 {
@@ -57,8 +73,12 @@ int main(void)
     PlannerRun started = planner_start(file, length, wcets, VERTICES);
     PlannerRecord run = started.run;
     uint32_t stepped[VERTICES] = {0};
-    while (planner_tick_in_place(&run, file, length).moved)
+    uint8_t shown[VERTICES] = {0};
+    print_waiting(&run, shown);
+    while (planner_tick_in_place(&run, file, length).moved) {
         note_finished(&run, stepped);
+        print_waiting(&run, shown);
+    }
     printf("done at %llu\n", (unsigned long long)run.instant);
     print_instants("finishes in place", stepped);
 
@@ -92,5 +112,9 @@ int main(void)
     run.left[3] = 4;
     PlannerMoved unsuited = planner_tick_in_place(&run, file, length);
     printf("refused %u at %u, %u ticks left of vertex 3\n", (unsigned)unsuited.number, (unsigned)unsuited.place, (unsigned)run.left[3]);
+    run.left[3] = 0;
+    run.waiting[3] = 1;
+    unsuited = planner_tick_in_place(&run, file, length);
+    printf("refused %u at %u, vertex 3 waits for %u\n", (unsigned)unsuited.number, (unsigned)unsuited.place, (unsigned)run.waiting[3]);
     return 0;
 }

@@ -20,6 +20,7 @@ mod planner {
         pub instant: u64,
         pub left: [u32; 128],
         pub ran: [u64; 2],
+        pub waiting: [u8; 128],
     }
 
     #[repr(C)]
@@ -74,7 +75,7 @@ mod planner {
     const _: () = assert!(std::mem::size_of::<Answer<Graph>>() == 2736);
     const _: () = assert!(std::mem::size_of::<Answer<u64>>() == 16);
     const _: () = assert!(std::mem::size_of::<Answer<Bounds>>() == 32);
-    const _: () = assert!(std::mem::size_of::<Answer<Record>>() == 552);
+    const _: () = assert!(std::mem::size_of::<Answer<Record>>() == 680);
     const _: () = assert!(std::mem::size_of::<Answer<u32>>() == 12);
 
     #[link(name = "planner", kind = "static")]

@@ -72,6 +72,7 @@ static void record(const PlannerRecord *run)
     words(run->left, PLANNER_MOST_VERTICES);
     field(run->ran[0]);
     field(run->ran[1]);
+    bytes(run->waiting, PLANNER_MOST_VERTICES);
 }
 
 /* A refusal, or the word of an answer that is none; whether it was a refusal. Only number 0 at place 0 is none. */

@@ -5,13 +5,14 @@ use super::graphs::{chain, exactly};
 use super::late;
 use super::lists::{edge, file_of as file_of_records, lists_of, records_of, Record};
 use super::logs::{conserving, cut, MOST_RECORDS};
+use super::numbers;
 use super::random::Random;
 use super::request::{self, Request, LARGEST_ROOM, LONGEST_PAYLOAD};
 use super::ways;
 use crate::reference::graph::{Graph, LONGEST_FILE, MOST_VERTICES, MOST_WCET, RECORD};
 use crate::reference::log::{bytes_of, events_of_run, START, STOP};
 use crate::reference::reader::read;
-use crate::reference::record::{RunRecord, LATEST};
+use crate::reference::record::{RunRecord, LATEST, RECORD_BYTES};
 use crate::reference::schedule::{record_at, spans};
 use crate::reference::writer::{file_of, Lists};
 
@@ -24,6 +25,9 @@ pub fn catalogue() -> Vec<Request> {
     requests.extend(wide_requests());
     requests.extend(ticks_of_small_runs());
     requests.extend(instants_at_the_limit());
+    requests.extend(runs_on_paper());
+    requests.extend(records_of_other_lengths());
+    requests.extend(numbers_one_step_away());
     requests.extend(gains_at_the_limits());
     requests.extend(alterations_of_refused_files());
     requests.extend(ends_of_small_runs());
@@ -129,6 +133,36 @@ pub fn two_cores() -> Lists {
     Lists { cores: vec![2], kinds: vec![0; 4], wcets: vec![4, 4, 4, 2], edges: vec![edge(0, 3), edge(1, 3)] }
 }
 
+/// The graphs of docs/orders/08.md, on one core. A chain whose vertices between the first and the last take no time.
+pub fn chain_of_no_time() -> Lists {
+    Lists {
+        cores: vec![1],
+        kinds: vec![0; 5],
+        wcets: vec![2, 0, 0, 0, 3],
+        edges: (1..5).map(|v| edge(v - 1, v)).collect(),
+    }
+}
+
+/// The same chain, where only the vertex in the middle takes time.
+pub fn no_time_at_the_ends() -> Lists {
+    Lists { wcets: vec![0, 0, 3, 0, 0], ..chain_of_no_time() }
+}
+
+/// Vertex 2 stands behind 0, and behind 1, which takes no time and stands behind 0 too.
+pub fn no_time_beside() -> Lists {
+    Lists {
+        cores: vec![1],
+        kinds: vec![0; 3],
+        wcets: vec![2, 0, 3],
+        edges: [(0, 1), (0, 2), (1, 2)].map(|(u, v)| edge(u, v)).to_vec(),
+    }
+}
+
+/// 127 vertices before one: the largest number of predecessors.
+pub fn one_behind_all() -> Graph {
+    with_edges(chain(128, 3, 5), &each(127, |v| (v, 127)))
+}
+
 fn worked_cases() -> Vec<Vec<u8>> {
     let altered = |change: &dyn Fn(&mut Lists)| {
         let mut lists = case_a();
@@ -154,6 +188,9 @@ fn worked_cases() -> Vec<Vec<u8>> {
         parallel_to_two(),
         two_sources(),
         two_cores(),
+        chain_of_no_time(),
+        no_time_at_the_ends(),
+        no_time_beside(),
     ];
     cases.iter().map(|lists| file_of_records(&records_of(lists))).collect()
 }
@@ -175,7 +212,7 @@ fn good_limits() -> Vec<Graph> {
         with_edges(chain(2, 16, 1), &[]),
         with_edges(chain(128, 16, MOST_WCET), &[]),
         with_edges(chain(128, 1, MOST_WCET), &[]),
-        with_edges(chain(128, 3, 5), &each(127, |v| (v, 127))),
+        one_behind_all(),
         with_edges(chain(128, 3, 5), &each(127, |v| (0, v + 1))),
         with_edges(chain(128, 3, 5), &each(64, |v| (v, v + 64))),
         with_edges(chain(128, 3, 5), &each(64, |v| (2 * v + 1, 2 * v))),
@@ -369,9 +406,62 @@ fn instants_at_the_limit() -> Vec<Request> {
         (0, LATEST as u64),
         (0, LATEST as u64 + 1),
     ] {
-        let record = RunRecord { n: 128, instant, remaining: [left; 128], ran: [0; 2] };
+        let record = RunRecord { n: 128, instant, remaining: [left; 128], ..RunRecord::zero() }.numbered(&graph);
         requests.push(request::tick(&file, &record));
         requests.push(request::tick_in_place(&file, &record));
+    }
+    requests
+}
+
+/// The runs and records of docs/orders/08.md: the starts, and the ticks around each end.
+fn runs_on_paper() -> Vec<Request> {
+    let mut requests = Vec::new();
+    for (_, graph, times) in numbers::runs() {
+        let file = file_of(&graph);
+        requests.push(request::start(&file, &times));
+        for record in numbers::around_ends(&graph, &times) {
+            requests.extend([request::tick(&file, &record), request::tick_in_place(&file, &record)]);
+        }
+    }
+    for (_, graph, record) in numbers::records() {
+        let file = file_of(&graph);
+        requests.extend([request::tick(&file, &record), request::tick_in_place(&file, &record)]);
+    }
+    requests
+}
+
+/// A record without its numbers, a byte shorter and longer, and others; of a good file and of none.
+fn records_of_other_lengths() -> Vec<Request> {
+    let graph = graph_of(&case_a());
+    let (file, record) = (file_of(&graph), record_at(&graph, &graph.wcets, 4).bytes());
+    let two = [&record[..], &record].concat();
+    let mut requests = Vec::new();
+    for length in [0, 543, 544, 545, RECORD_BYTES - 1, RECORD_BYTES, RECORD_BYTES + 1, RECORD_BYTES + 8, two.len()] {
+        for file in [&file[..], &[]] {
+            requests.extend([b'T', b'I'].map(|letter| Request::of(letter).list(file).list(&two[..length])));
+        }
+    }
+    requests
+}
+
+/// Records that suit but for their numbers of unfinished predecessors, of the runs of docs/orders/08.md and of the largest
+/// graph: around each end where the graph is small, and else at the start, in the middle and at the end. By value and in place
+/// in turn.
+fn numbers_one_step_away() -> Vec<Request> {
+    let largest = exactly(&mut Random::new(0, 10), 10, MOST_VERTICES, 1_024);
+    let mut runs = numbers::runs();
+    runs.push(("the largest", largest.clone(), largest.wcets.clone()));
+    let mut requests = Vec::new();
+    for (_, graph, times) in runs {
+        let file = file_of(&graph);
+        let records = numbers::around_ends(&graph, &times);
+        let some = [0, records.len() / 2, records.len() - 1];
+        for i in (0..records.len()).filter(|i| graph.vertices() < 8 || some.contains(i)) {
+            for record in numbers::one_step_away(&graph, &records, i) {
+                let ask = if requests.len() % 2 == 0 { request::tick } else { request::tick_in_place };
+                requests.push(ask(&file, &record));
+            }
+        }
     }
     requests
 }
@@ -611,6 +701,6 @@ pub fn numbers_of_paths() -> Vec<Graph> {
     graphs
 }
 
-fn graph_of(lists: &Lists) -> Graph {
+pub fn graph_of(lists: &Lists) -> Graph {
     read(&file_of_records(&records_of(lists))).expect("lists of an accepted graph")
 }

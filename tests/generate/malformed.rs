@@ -51,7 +51,7 @@ fn odd_list(random: &mut Random) -> Request {
         4 => Request::of(b'D').list(&[]).list(&bytes).number(4),
         5 => Request::of(b'O').list(&[]).list(&bytes).number(4),
         _ => {
-            let length = random.pick(&[0, 16, 543, 545, 544 + 4, 2 * 544]);
+            let length = random.pick(&[0, 16, 544, 671, 673, 672 + 4, 2 * 672]);
             Request::of(random.pick(b"TI")).list(&[]).list(&vec![0; length])
         }
     }

@@ -7,6 +7,8 @@
 //!   faults     a fault planted for each number that says no
 //!   damage     blind damage to a file
 //!   runs       execution times and run records, fitting and not
+//!   miscounts  numbers of unfinished predecessors counted wrongly
+//!   numbers    the runs and records of docs/orders/08.md, and records one step away from good ones
 //!   altered    a vertex and a new WCET for it, fitting and not
 //!   late       the tick that a run is asked to end by
 //!   conserving work-conserving schedules that need not be list schedules
@@ -28,6 +30,8 @@ pub mod late;
 pub mod lists;
 pub mod logs;
 pub mod malformed;
+pub mod miscounts;
+pub mod numbers;
 pub mod random;
 pub mod request;
 pub mod runs;

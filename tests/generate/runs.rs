@@ -1,8 +1,9 @@
-//! Execution times and run records: of real runs, of none, and damaged.
+//! Execution times and run records: of real runs, of none, damaged, and with wrong numbers of unfinished predecessors.
 
+use super::miscounts::{mistaken, MISCOUNTS};
 use super::random::Random;
 use crate::reference::graph::{Graph, MOST_VERTICES};
-use crate::reference::record::{ready, RunRecord, LATEST};
+use crate::reference::record::{ready, Numbers, RunRecord, LATEST};
 use crate::reference::schedule::{record_at, spans};
 
 /// Times that suit the graph.
@@ -37,14 +38,20 @@ pub fn any_times(random: &mut Random, graph: &Graph) -> Vec<u32> {
 /// A record that a run of the graph has at some instant, its start and its end among them.
 pub fn reached(random: &mut Random, graph: &Graph) -> RunRecord {
     let times = times(random, graph);
-    let spans = spans(graph, &times);
+    let instant = instant(random, graph, &times);
+    record_at(graph, &times, instant)
+}
+
+/// An instant of the run with these times.
+fn instant(random: &mut Random, graph: &Graph, times: &[u32]) -> u64 {
+    let spans = spans(graph, times);
     let finish = spans.iter().map(|s| s.end).max().unwrap_or(0);
     let span = random.pick(&spans);
-    // around a start or a finish is where marks come and go
+    // around a start or a finish is where marks come and go, and numbers fall
     let near = random.pick(&[span.begin, span.end, span.end.saturating_sub(1), span.begin + 1]);
     let anywhere = random.between(0, finish as usize) as u64;
     let instant = random.pick(&[0, anywhere, anywhere, near, near, near, finish.saturating_sub(1), finish]);
-    record_at(graph, &times, instant.min(finish))
+    instant.min(finish)
 }
 
 /// A record that suits the graph although no run may reach it: any remainders, any marks that are allowed.
@@ -66,10 +73,11 @@ pub fn unreached(random: &mut Random, graph: &Graph) -> RunRecord {
     let room = LATEST as u64 - total(&record);
     let anywhere = random.up_to(room);
     record.instant = random.pick(&[0, 1, room, anywhere]);
-    record
+    record.numbered(graph)
 }
 
-/// A record with one thing wrong, or changed so little that it still suits.
+/// A record with one thing wrong, or changed so little that it still suits. The numbers of unfinished predecessors mostly go
+/// with the remainders, so that nothing else is wrong.
 pub fn damaged(random: &mut Random, graph: &Graph) -> RunRecord {
     let mut record = if random.one_in(2) { reached(random, graph) } else { unreached(random, graph) };
     let n = graph.vertices();
@@ -88,7 +96,48 @@ pub fn damaged(random: &mut Random, graph: &Graph) -> RunRecord {
         10..=12 => mark_about_all_cores(random, graph, &mut record),
         _ => record.instant = late_instant(random, &record),
     }
+    if random.one_in(6) {
+        record
+    } else {
+        record.numbered(graph)
+    }
+}
+
+/// A record that suits but for its numbers of unfinished predecessors, where these aren't right by chance: one of them too high
+/// or too low; one from N on; two changed places; one vertex mistaken for finished, or not; those of another instant of the
+/// same run; or all counted wrongly.
+pub fn misnumbered(random: &mut Random, graph: &Graph) -> RunRecord {
+    let n = graph.vertices();
+    let times = times(random, graph);
+    let instants = [(); 2].map(|_| instant(random, graph, &times));
+    let mut record = record_at(graph, &times, instants[0]);
+    if random.one_in(3) {
+        record = unreached(random, graph);
+    }
+    match random.below(12) {
+        0..=3 => one_wrong(random, n, &mut record.waiting),
+        4 if n < MOST_VERTICES => {
+            let past = random.between(n, MOST_VERTICES - 1);
+            record.waiting[random.pick(&[n, past, MOST_VERTICES - 1])] = random.pick(&[1, 255]);
+        }
+        5 => record.waiting.swap(random.below(n), random.below(n)),
+        6..=7 => record.waiting = mistaken(graph, &record.remaining, random.below(n)),
+        8 => record = RunRecord { waiting: record_at(graph, &times, instants[1]).waiting, ..record },
+        _ => record.waiting = random.pick(&MISCOUNTS).1(graph, &record.remaining),
+    }
     record
+}
+
+/// By one, mostly, of the first vertex, the last, or any. One less than 0 is 255.
+fn one_wrong(random: &mut Random, n: usize, numbers: &mut Numbers) {
+    let mut some: Vec<usize> = (0..n).collect();
+    if random.one_in(2) && numbers[..n].iter().any(|&number| number > 0) {
+        some.retain(|&v| numbers[v] > 0);
+    }
+    let any = random.pick(&some);
+    let v = random.pick(&[some[0], some[some.len() - 1], any, any]);
+    let off = random.pick(&[1, 1, 1, 255, 255, 255, 2, 64, 128, 254]);
+    numbers[v] = numbers[v].wrapping_add(off);
 }
 
 /// Instants where the sum with the remainders is just too large, or would wrap to a small one.

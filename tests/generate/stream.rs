@@ -12,7 +12,7 @@ use super::logs;
 use super::malformed::spoilt;
 use super::random::Random;
 use super::request::{self, Request, LARGEST_ROOM};
-use super::runs::{any_times, damaged, reached, times, unreached};
+use super::runs::{any_times, damaged, misnumbered, reached, times, unreached};
 use super::ways;
 use crate::reference::graph::{Graph, MOST_VERTICES, MOST_WCET, RECORD};
 use crate::reference::writer::{file_of, Lists};
@@ -36,19 +36,19 @@ impl Stream {
 }
 
 fn any_request(random: &mut Random) -> Request {
-    let request = match random.below(40) {
+    let request = match random.below(48) {
         0..=3 => request::read(&any_file(random, 3).1),
         4..=5 => any_write(random),
         6..=7 => request::bounds(&any_file(random, 8).1),
         8..=9 => any_path(random),
-        10 => any_start(random),
-        11..=13 => any_tick(random),
-        14..=15 => any_run(random),
-        16..=19 => any_gains(random),
-        20..=23 => any_gains_altered(random),
-        24..=27 => any_second(random),
-        28..=31 => any_late(random),
-        32..=35 => any_replay(random),
+        10..=13 => any_start(random),
+        14..=21 => any_tick(random),
+        22..=23 => any_run(random),
+        24..=27 => any_gains(random),
+        28..=31 => any_gains_altered(random),
+        32..=35 => any_second(random),
+        36..=39 => any_late(random),
+        40..=43 => any_replay(random),
         _ => any_log(random),
     };
     if random.one_in(20) {
@@ -139,14 +139,15 @@ fn any_start(random: &mut Random) -> Request {
 
 fn any_tick(random: &mut Random) -> Request {
     let (graph, file) = any_file(random, 8);
-    let record = match random.below(8) {
+    let record = match random.below(12) {
         0..=3 => reached(random, &graph),
         4 => unreached(random, &graph),
         5 => {
             let other = graphs::any(random);
             reached(random, &other)
         }
-        _ => damaged(random, &graph),
+        6..=7 => damaged(random, &graph),
+        _ => misnumbered(random, &graph),
     };
     if random.one_in(2) {
         request::tick(&file, &record)

@@ -108,6 +108,12 @@ impl<'a> Fields<'a> {
         (room <= LARGEST_ROOM as u64).then_some(room as usize)
     }
 
+    fn of_tick(mut self) -> Option<(&'a [u8], RunRecord)> {
+        let (file, record) = (self.list()?, RunRecord::from_bytes(self.list()?)?);
+        self.end()?;
+        Some((file, record))
+    }
+
     fn of_late(mut self) -> Option<(&'a [u8], Vec<u32>, u32)> {
         let (file, times, d) = (self.list()?, self.list_of_words()?, self.word()?);
         self.end()?;
@@ -177,10 +183,13 @@ fn answer_start(mut fields: Fields) -> Option<String> {
     })
 }
 
-fn answer_tick(mut fields: Fields) -> Option<String> {
-    let file = fields.list()?;
-    let record = RunRecord::from_bytes(fields.list()?)?;
-    fields.end()?;
+/// What a request for a tick asks about: file and record.
+pub fn asked_tick(request: &Request) -> Option<(&[u8], RunRecord)> {
+    Fields(&request.payload).of_tick()
+}
+
+fn answer_tick(fields: Fields) -> Option<String> {
+    let (file, record) = fields.of_tick()?;
     Some(match read(file).and_then(|graph| tick(&graph, &record)) {
         Err(refusal) => format!("{} :{}", refused(refusal), shown(&record)),
         Ok((Ticked::Moved, next)) => format!("moved :{}", shown(&next)),
@@ -280,7 +289,8 @@ fn refused(refusal: Refusal) -> String {
 
 /// The record, with a blank before each number.
 fn shown(record: &RunRecord) -> String {
-    [joined([record.n, record.instant]), joined(record.remaining), joined(record.ran)].concat()
+    let [begin, left] = [joined([record.n, record.instant]), joined(record.remaining)];
+    [begin, left, joined(record.ran), joined(record.waiting)].concat()
 }
 
 fn joined<T: Display>(list: impl IntoIterator<Item = T>) -> String {

@@ -1,16 +1,18 @@
 //! The reference alone: which answers its own requests get, and whether every one of them occurs.
 
-use crate::answer::{answer, answers, asked_late, asked_replay};
+use crate::answer::{answer, answers, asked_late, asked_replay, asked_tick};
 use crate::compare::cut_input;
 use crate::crosscheck;
 use crate::generate::request::Request;
 use crate::generate::stream::Stream;
 use crate::logged::{Logged, LOGS};
+use crate::numbered::{Numbered, RECORDS};
 use crate::options::Options;
 use crate::reference::bounds::bounds;
 use crate::reference::graph::Graph;
 use crate::reference::late::finish;
 use crate::reference::reader::read;
+use crate::reference::record::{RunRecord, CONDITIONS};
 use std::collections::BTreeMap;
 
 /// What can be answered to each letter: 12 never. `-` is any request that isn't one. A 7 of A is the file's own; the two
@@ -80,6 +82,8 @@ pub fn own_requests(options: &Options) -> bool {
     let mut boards = [0; BOARDS.len()];
     let mut ticks = [0; TICKS.len()];
     let mut logs = [0; LOGS.len()];
+    let mut unsuited = [0; CONDITIONS.len()];
+    let mut records = [0; RECORDS.len()];
     for place in 0..options.count {
         let request = stream.request(place);
         let cell = cell(&request);
@@ -100,6 +104,13 @@ pub fn own_requests(options: &Options) -> bool {
                 LOGS.iter().zip(&mut logs).for_each(|((_, is), many)| *many += is(&logged) as u64);
             }
         }
+        if let Some((graph, record)) = asked_tick_of_a_graph(&request, &cell) {
+            let wrong = record.unmet(&graph);
+            CONDITIONS.iter().zip(&mut unsuited).for_each(|((name, _), many)| *many += (wrong == [*name]) as u64);
+            if let Some(numbered) = Numbered::of(&graph, &record) {
+                RECORDS.iter().zip(&mut records).for_each(|((_, is), many)| *many += is(&numbered) as u64);
+            }
+        }
         *table.entry(cell).or_default() += 1;
     }
     print_table(&table);
@@ -107,6 +118,8 @@ pub fn own_requests(options: &Options) -> bool {
     faults.extend(never_asked("boards", &BOARDS.map(|(name, _)| name), &boards));
     faults.extend(never_asked("ticks", &TICKS.map(|(name, _)| name), &ticks));
     faults.extend(never_asked("logs", &LOGS.map(|(name, _)| name), &logs));
+    faults.extend(never_asked("16 for one thing alone", &CONDITIONS.map(|(name, _)| name), &unsuited));
+    faults.extend(never_asked("numbers of unfinished predecessors", &RECORDS.map(|(name, _)| name), &records));
     faults.extend(crosscheck::faults(options));
     if !(0..24).all(|place| answers(&cut_input(options.seed, place)).ends_with("bad request\n")) {
         faults.push("an input that ends inside a request must end with `bad request`".to_string());
@@ -114,6 +127,12 @@ pub fn own_requests(options: &Options) -> bool {
     faults.iter().for_each(|fault| eprintln!("{fault}"));
     println!("{} requests, {} faults", options.count, faults.len());
     faults.is_empty()
+}
+
+/// The graph and the record of a request for a tick, where the file is accepted.
+fn asked_tick_of_a_graph(request: &Request, (letter, _): &(char, String)) -> Option<(Graph, RunRecord)> {
+    let (file, record) = ['T', 'I'].contains(letter).then(|| asked_tick(request))??;
+    Some((read(file).ok()?, record))
 }
 
 /// Prints how often each was asked for; those that never were.

@@ -1,7 +1,8 @@
 //! The reference against itself by second ways: all complete paths written out, bounds as fractions, ancestors by who
 //! stands before whom on these paths, gains by the paths without a vertex's time, alterations in the file's own bytes,
-//! runs tick by tick, stopped at any, logs tick by tick and every schedule of three vertices, a planted fault for each number
-//! and each pair of them, and the values worked on paper.
+//! runs tick by tick, stopped at any, unfinished predecessors by the finishes that lie ahead and by the paths, logs tick by
+//! tick and every schedule of three vertices, a planted fault for each number and each pair of them, and the values worked
+//! on paper.
 
 use crate::by_ticks::{is_work_conserving, judged, log_of};
 use crate::compare::hex;
@@ -18,8 +19,9 @@ use crate::generate::frames::frames;
 use crate::generate::graphs::{chain, fan, of, to_be_damaged, twins};
 use crate::generate::lists::{edge, file_of as file_of_records, lists_of, records_of};
 use crate::generate::logs;
+use crate::generate::numbers;
 use crate::generate::random::Random;
-use crate::generate::runs::times;
+use crate::generate::runs::{damaged, misnumbered, times, unreached};
 use crate::generate::ways;
 use crate::options::Options;
 use crate::reference::bounds::{bounds, least_path, Bounds};
@@ -29,7 +31,7 @@ use crate::reference::late::{late, Late};
 use crate::reference::log::{bytes_of, events_of_run, log};
 use crate::reference::order::topological;
 use crate::reference::reader::read;
-use crate::reference::record::finished;
+use crate::reference::record::{finished, Numbers, RunRecord};
 use crate::reference::refusal::Refusal;
 use crate::reference::replay::{replay, Replay};
 use crate::reference::schedule::{record_at, run, spans, start, tick, Ticked};
@@ -59,6 +61,8 @@ pub fn faults(options: &Options) -> Vec<String> {
     faults.extend(second_on_paper());
     faults.extend(late_on_paper());
     faults.extend(logs_on_paper());
+    faults.extend(numbers_on_paper());
+    faults.extend(records_on_paper());
     faults.extend(paths_counted());
     faults.extend(schedules_of_three());
     for place in 0..2_000 {
@@ -72,6 +76,7 @@ pub fn faults(options: &Options) -> Vec<String> {
             && gains_agree(&graph)
             && alteration_agrees(random, &graph)
             && runs_agree(random, &graph)
+            && numbers_agree(random, &graph)
             && late_agrees(random, &graph)
             && logs_agree(random, &graph);
         if !same {
@@ -269,7 +274,7 @@ fn complete_paths(graph: &Graph) -> Vec<Vec<u8>> {
 }
 
 /// A whole run equals its ticks: each vertex's finish is the first instant at which it is finished, and each record on
-/// the way is the one that the spans give.
+/// the way is the one that the spans give: there a predecessor is unfinished where its finish lies ahead.
 fn runs_agree(random: &mut Random, graph: &Graph) -> bool {
     let times = times(random, graph);
     let mut record = start(graph, &times).unwrap();
@@ -288,6 +293,29 @@ fn runs_agree(random: &mut Random, graph: &Graph) -> bool {
             (Ticked::Done, same) => break same == record && finishes_agree(graph, &times, finishes),
         }
     }
+}
+
+/// Of any record, good or bad: nothing is wrong with the numbers that the complete paths give, and with others it is refused. A
+/// predecessor is unfinished where it has ticks left itself, or someone before it on a path has.
+fn numbers_agree(random: &mut Random, graph: &Graph) -> bool {
+    let paths = complete_paths(graph);
+    let records =
+        [misnumbered(random, graph), misnumbered(random, graph), damaged(random, graph), unreached(random, graph)];
+    records.iter().all(|record| {
+        let mut unfinished = vec![false; graph.vertices()];
+        for path in &paths {
+            let mut some_left = false;
+            for &v in path {
+                some_left |= record.remaining[v as usize] > 0;
+                unfinished[v as usize] |= some_left;
+            }
+        }
+        let mut numbers = [0; MOST_VERTICES];
+        graph.edges.iter().for_each(|&(u, v)| numbers[v as usize] += unfinished[u as usize] as u8);
+        let right = RunRecord { waiting: numbers, ..record.clone() };
+        let is_right = right.unmet(graph).iter().all(|wrong| !["another number", "a number from N on"].contains(wrong));
+        is_right && (record.waiting == numbers || tick(graph, record) == refused(16, 0))
+    })
 }
 
 fn finishes_agree(graph: &Graph, times: &[u32], finishes: Vec<Option<u32>>) -> bool {
@@ -542,6 +570,119 @@ fn logs_on_paper() -> Vec<String> {
     let last = Replay { finish: 128_000_000, times: longest.wcets.clone() };
     expect("the longest run", all.len() == 2_048 && replay(&longest, &all, MOST_VERTICES) == Ok(last));
     faults
+}
+
+/// docs/orders/08.md works these out: from which instant on the numbers stand, up to the finish.
+fn numbers_on_paper() -> Vec<String> {
+    let largest: Vec<(u64, Vec<u8>)> = (0..=43)
+        .map(|step: u64| (5 * step, [vec![0; 127], vec![127u8.saturating_sub(3 * step as u8)]].concat()))
+        .chain([(220, vec![0; 128])])
+        .collect();
+    let at = |stands: &[(u64, &[u8])]| stands.iter().map(|&(t, numbers)| (t, numbers.to_vec())).collect();
+    let worked: [(&str, Vec<(u64, Vec<u8>)>); 10] = [
+        ("A", at(&[(0, &[0, 1, 1, 2]), (4, &[0, 0, 0, 2]), (10, &[0, 0, 0, 1]), (13, &[0; 4]), (16, &[0; 4])])),
+        ("A, 2 takes no time", at(&[(0, &[0, 1, 1, 2]), (4, &[0, 0, 0, 1]), (13, &[0; 4]), (16, &[0; 4])])),
+        ("A, 0 takes no time", at(&[(0, &[0, 0, 0, 2]), (6, &[0, 0, 0, 1]), (9, &[0; 4]), (12, &[0; 4])])),
+        ("A, nothing takes time", at(&[(0, &[0; 4])])),
+        (
+            "D",
+            at(&[
+                (0, &[0, 0, 0, 1, 1, 1, 2]),
+                (2, &[0, 0, 0, 1, 0, 1, 2]),
+                (3, &[0, 0, 0, 0, 0, 0, 2]),
+                (8, &[0, 0, 0, 0, 0, 0, 1]),
+                (9, &[0; 7]),
+            ]),
+        ),
+        (
+            "E",
+            at(&[
+                (0, &[0, 0, 0, 1, 1, 1, 2]),
+                (2, &[0, 0, 0, 0, 0, 1, 2]),
+                (7, &[0, 0, 0, 0, 0, 1, 1]),
+                (8, &[0, 0, 0, 0, 0, 0, 1]),
+                (14, &[0; 7]),
+            ]),
+        ),
+        ("a chain of no time", at(&[(0, &[0, 1, 1, 1, 1]), (2, &[0; 5]), (5, &[0; 5])])),
+        ("no time at the ends", at(&[(0, &[0, 0, 0, 1, 1]), (3, &[0; 5])])),
+        ("no time beside", at(&[(0, &[0, 1, 2]), (2, &[0; 3]), (5, &[0; 3])])),
+        ("one behind 127", largest),
+    ];
+    let mut faults = Vec::new();
+    let runs = numbers::runs();
+    for ((name, graph, times), (same, stands)) in runs.iter().zip(&worked) {
+        if name != same || !numbers_stand(graph, times, stands) {
+            faults.push(format!("the numbers of '{name}' are not as on paper"));
+        }
+    }
+    if runs.len() != worked.len() {
+        faults.push("not every run with numbers is worked on paper".to_string());
+    }
+    faults
+}
+
+/// docs/orders/08.md works these out: what a tick says, with the numbers that it hands back; none where it is 16 at 0.
+fn records_on_paper() -> Vec<String> {
+    let moved = |numbers: &[u8]| Some((Ticked::Moved, padded(numbers)));
+    let worked = [
+        ("A at 4", moved(&[0, 0, 0, 2])),
+        ("A at 4, one too low", None),
+        ("A at 4, one too high", None),
+        ("A at 4, 1 for the first", None),
+        ("A at 4, 255 for the first", None),
+        ("A at 4, those of instant 3", None),
+        ("A at 4, all zero", None),
+        ("A at 4, a 1 at place 4", None),
+        ("A at 4, a 1 at place 127", None),
+        ("A at 0, all that stand before", None),
+        ("A at 16", Some((Ticked::Done, [0; MOST_VERTICES]))),
+        ("A at 16, a number left", None),
+        ("1 ahead of 0", moved(&[0, 1, 1, 2])),
+        ("1 ahead of 0, taken for finished", None),
+        ("1 ahead of 0, both finish", moved(&[0, 0, 0, 1])),
+        ("the chain at 1", moved(&[0; 5])),
+        ("the chain at 1, by the remainders", None),
+        ("the chain at 2, told to 1", None),
+        ("the chain at 2, told to 2", None),
+        ("the chain at 2, told to 3", None),
+        ("beside at 1", moved(&[0; 3])),
+        ("beside at 1, by the remainders", None),
+        ("beside at 2, told once", None),
+    ];
+    let records = numbers::records();
+    let mut faults = Vec::new();
+    for ((name, graph, record), (same, outcome)) in records.iter().zip(&worked) {
+        let told = tick(graph, record).map(|(ticked, next)| (ticked, next.waiting));
+        if name != same || told != outcome.ok_or(Refusal { number: 16, place: 0 }) {
+            faults.push(format!("the record '{name}' has another outcome than on paper"));
+        }
+    }
+    if records.len() != worked.len() {
+        faults.push("not every record is worked on paper".to_string());
+    }
+    faults
+}
+
+fn padded(numbers: &[u8]) -> Numbers {
+    let mut all = [0; MOST_VERTICES];
+    all[..numbers.len()].copy_from_slice(numbers);
+    all
+}
+
+/// Tick by tick: from each instant on those numbers, until the next one, and the last instant is the finish.
+fn numbers_stand(graph: &Graph, times: &[u32], stands: &[(u64, Vec<u8>)]) -> bool {
+    let mut record = start(graph, times).unwrap();
+    loop {
+        let (_, numbers) = stands.iter().rfind(|(from, _)| *from <= record.instant).unwrap();
+        if record.waiting != padded(numbers) {
+            return false;
+        }
+        match tick(graph, &record).unwrap() {
+            (Ticked::Moved, next) => record = next,
+            (Ticked::Done, same) => break same == record && record.instant == stands[stands.len() - 1].0,
+        }
+    }
 }
 
 fn refused<T>(number: u32, place: usize) -> Result<T, Refusal> {

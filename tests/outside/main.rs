@@ -8,6 +8,7 @@ mod crosscheck;
 #[path = "../generate/mod.rs"]
 mod generate;
 mod logged;
+mod numbered;
 mod options;
 mod probe;
 mod recorded;

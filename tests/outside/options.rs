@@ -37,7 +37,7 @@ pub struct Options {
 
 impl Options {
     pub fn from(words: impl Iterator<Item = String>) -> Result<Options, String> {
-        let mut options = Options { mode: Mode::Compare, count: 40_000, seed: 1, command: Vec::new() };
+        let mut options = Options { mode: Mode::Compare, count: 48_000, seed: 1, command: Vec::new() };
         let mut words = words;
         while let Some(word) = words.next() {
             let mut number = || {

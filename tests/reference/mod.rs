@@ -12,7 +12,7 @@
 //!   bounds    OLD-B, NEW-B-1 and the least path
 //!   second    NEW-B-2, and the number of complete paths (17)
 //!   gains     what a rewrite of each vertex would gain, and their ranking
-//!   record    the run record, and which of them suit a graph (16)
+//!   record    the run record with its numbers of unfinished predecessors, and which of them suit a graph (16)
 //!   schedule  start, tick, whole run
 //!   late      whether a run ends by a tick, and the ticks played to tell
 //!   log       what the log of a frame says, and the log of a list schedule

@@ -3,7 +3,10 @@
 use super::graph::{Graph, MOST_VERTICES};
 use super::order::topological;
 
-pub const RECORD_BYTES: usize = 8 + 8 + 4 * MOST_VERTICES + 16;
+/// Where the two words of who ran begin, and where the numbers of unfinished predecessors do.
+const RAN: usize = 8 + 8 + 4 * MOST_VERTICES;
+const WAITING: usize = RAN + 2 * 8;
+pub const RECORD_BYTES: usize = WAITING + MOST_VERTICES;
 /// Instant and remainders together: 128 vertices of 1,000,000 ticks.
 pub const LATEST: u128 = 128_000_000;
 
@@ -14,11 +17,46 @@ pub struct RunRecord {
     pub remaining: [u32; MOST_VERTICES],
     /// Which vertices ran in the last tick and are unfinished: bit v mod 64 of word v / 64.
     pub ran: [u64; 2],
+    /// Of each vertex, how many of its direct predecessors are unfinished.
+    pub waiting: Numbers,
 }
+
+pub type Numbers = [u8; MOST_VERTICES];
+
+/// When a record suits a graph: document 01's sentence and order 8's, condition by condition, each under the name of what is
+/// wrong where it doesn't hold. The sum is taken in 128 bits, as the instant may be any number.
+pub const CONDITIONS: [(&str, fn(&RunRecord, &Graph) -> bool); 9] = [
+    ("another N", |r, g| r.n == g.vertices() as u64),
+    ("a remainder above the WCET", |r, g| (0..g.vertices()).all(|v| r.remaining[v] <= g.wcets[v])),
+    ("too late", |r, g| {
+        let total: u128 = r.remaining[..g.vertices()].iter().map(|&left| left as u128).sum();
+        r.instant as u128 + total <= LATEST
+    }),
+    ("a mark that is not ready", |r, g| {
+        let ready = ready(g, &r.remaining);
+        (0..g.vertices()).all(|v| !r.is_marked(v) || ready[v])
+    }),
+    ("more marks than cores", |r, g| {
+        let marked = |s: usize| (0..g.vertices()).filter(|&v| r.is_marked(v) && g.kinds[v] as usize == s).count();
+        g.cores.iter().enumerate().all(|(s, &cores)| marked(s) <= cores as usize)
+    }),
+    ("a remainder from N on", |r, g| r.remaining[g.vertices()..].iter().all(|&left| left == 0)),
+    ("a mark from N on", |r, g| (g.vertices()..MOST_VERTICES).all(|v| !r.is_marked(v))),
+    ("another number", |r, g| {
+        let n = g.vertices();
+        r.waiting[..n] == waiting(g, &r.remaining)[..n]
+    }),
+    ("a number from N on", |r, g| r.waiting[g.vertices()..].iter().all(|&number| number == 0)),
+];
 
 impl RunRecord {
     pub fn zero() -> RunRecord {
-        RunRecord { n: 0, instant: 0, remaining: [0; MOST_VERTICES], ran: [0; 2] }
+        RunRecord { n: 0, instant: 0, remaining: [0; MOST_VERTICES], ran: [0; 2], waiting: [0; MOST_VERTICES] }
+    }
+
+    /// The same with the numbers that its remainders have on this graph.
+    pub fn numbered(self, graph: &Graph) -> RunRecord {
+        RunRecord { waiting: waiting(graph, &self.remaining), ..self }
     }
 
     pub fn is_marked(&self, v: usize) -> bool {
@@ -36,6 +74,7 @@ impl RunRecord {
         bytes.extend(self.instant.to_le_bytes());
         self.remaining.iter().for_each(|r| bytes.extend(r.to_le_bytes()));
         self.ran.iter().for_each(|w| bytes.extend(w.to_le_bytes()));
+        bytes.extend(self.waiting);
         bytes
     }
 
@@ -48,31 +87,21 @@ impl RunRecord {
         let mut record = RunRecord::zero();
         record.n = word(0);
         record.instant = word(8);
-        for (v, r) in bytes[16..RECORD_BYTES - 16].chunks(4).enumerate() {
+        for (v, r) in bytes[16..RAN].chunks(4).enumerate() {
             record.remaining[v] = u32::from_le_bytes(r.try_into().unwrap());
         }
-        record.ran = [word(RECORD_BYTES - 16), word(RECORD_BYTES - 8)];
+        record.ran = [word(RAN), word(RAN + 8)];
+        record.waiting.copy_from_slice(&bytes[WAITING..]);
         Some(record)
     }
 
-    /// Document 01's sentence, condition by condition. The sum is taken in 128 bits, as the instant may be any number.
     pub fn suits(&self, graph: &Graph) -> bool {
-        let n = graph.vertices();
-        if self.n != n as u64 {
-            return false;
-        }
-        let no_remainder_exceeds = (0..n).all(|v| self.remaining[v] <= graph.wcets[v]);
-        let total: u128 = self.remaining[..n].iter().map(|&r| r as u128).sum();
-        let in_time = self.instant as u128 + total <= LATEST;
-        let ready = ready(graph, &self.remaining);
-        let marks_are_ready = (0..n).all(|v| !self.is_marked(v) || ready[v]);
-        let marked_of = |s: usize| {
-            let marked = (0..n).filter(|&v| self.is_marked(v) && graph.kinds[v] as usize == s);
-            marked.count()
-        };
-        let cores_are_enough = (graph.cores.iter().enumerate()).all(|(s, &cores)| marked_of(s) <= cores as usize);
-        let rest_is_empty = (n..MOST_VERTICES).all(|v| self.remaining[v] == 0 && !self.is_marked(v));
-        no_remainder_exceeds && in_time && marks_are_ready && cores_are_enough && rest_is_empty
+        self.unmet(graph).is_empty()
+    }
+
+    /// What is wrong with it, of all that can be.
+    pub fn unmet(&self, graph: &Graph) -> Vec<&'static str> {
+        CONDITIONS.iter().filter(|(_, holds)| !holds(self, graph)).map(|(wrong, _)| *wrong).collect()
     }
 }
 
@@ -91,4 +120,15 @@ pub fn ready(graph: &Graph, remaining: &[u32]) -> Vec<bool> {
     let before = graph.predecessors();
     let done = finished(graph, remaining);
     (0..graph.vertices()).map(|v| !done[v] && before[v].iter().all(|&u| done[u])).collect()
+}
+
+/// Of each vertex the number of its direct predecessors that are unfinished, counted one by one. One of which nothing remains
+/// is unfinished all the same, where it stands behind an unfinished one. From N on 0.
+pub fn waiting(graph: &Graph, remaining: &[u32]) -> Numbers {
+    let done = finished(graph, remaining);
+    let mut numbers = [0; MOST_VERTICES];
+    for (v, before) in graph.predecessors().iter().enumerate() {
+        numbers[v] = before.iter().filter(|&&u| !done[u]).count() as u8;
+    }
+    numbers
 }

@@ -1,7 +1,8 @@
 //! The list schedule: start, one tick, a whole run.
 //!
-//! A tick is played by the rule. A whole run is not made of ticks: as a vertex that runs runs on until it has
-//! finished, the run is a queue of finishes, and its cost doesn't grow with the times.
+//! A tick is played by the rule, and the numbers of unfinished predecessors are counted afresh at each. A whole run is not
+//! made of ticks: as a vertex that runs runs on until it has finished, the run is a queue of finishes, and its cost doesn't
+//! grow with the times.
 
 use super::graph::Graph;
 use super::record::{finished, ready, RunRecord};
@@ -26,7 +27,7 @@ pub fn start(graph: &Graph, times: &[u32]) -> Result<RunRecord, Refusal> {
     let mut record = RunRecord::zero();
     record.n = graph.vertices() as u64;
     record.remaining[..times.len()].copy_from_slice(times);
-    Ok(record)
+    Ok(record.numbered(graph))
 }
 
 /// One tick; a refusal leaves the record to the caller as it was.
@@ -44,7 +45,7 @@ pub fn tick(graph: &Graph, record: &RunRecord) -> Result<(Ticked, RunRecord), Re
             next.mark(v);
         }
     }
-    Ok((Ticked::Moved, next))
+    Ok((Ticked::Moved, next.numbered(graph)))
 }
 
 /// Who runs in the tick that begins: first those that ran in the tick before, then the lowest numbered.
@@ -168,16 +169,18 @@ impl Board<'_> {
     }
 }
 
-/// The record of the run with these times at an instant at or before its finish.
+/// The record of the run with these times at an instant at or before its finish. Its numbers are of those that finish later.
 pub fn record_at(graph: &Graph, times: &[u32], instant: u64) -> RunRecord {
     let mut record = start(graph, times).expect("times that suit the graph");
+    let (spans, before) = (spans(graph, times), graph.predecessors());
     record.instant = instant;
-    for (v, span) in spans(graph, times).iter().enumerate() {
+    for (v, span) in spans.iter().enumerate() {
         let ran = instant.clamp(span.begin, span.end) - span.begin;
         record.remaining[v] -= ran as u32;
         if ran > 0 && instant < span.end {
             record.mark(v);
         }
+        record.waiting[v] = before[v].iter().filter(|&&u| spans[u].end > instant).count() as u8;
     }
     record
 }

@@ -27,7 +27,7 @@ use Rattle.times.proofs.Fits.{times-fit, none-past}
 use Rattle.leaps.specs.Finishes.{finishOf}
 use Rattle.leaps.specs.Leaps.{untilOf}
 use Rattle.leaps.proofs.Finishes.{finish-below-new}
-use Rattle.leaps.proofs.Instants.{left-start}
+use Rattle.leaps.proofs.Instants.{left-start, fresh-start}
 use Rattle.bounds.specs.declared.Bounded.{Bounded}
 use Rattle.schedule.specs.declared.Played.the-variants.{Finish as Finished}
 use Rattle.late.specs.Answers.{Told, Nothing, Beside, judgedAfter, judgedOf, LateOf}
@@ -96,7 +96,7 @@ module _ {s e : List ℕ} {d : ℕ} {r : Lateness} (L : LateGives s e d r) (ok :
 
     -- THEOREM. The count is the instant of the record that was played: from the record at instant 0, a run up to tick d hands back the list
     -- schedule's record at just that instant.
-    pub played-record : {b : Bounded} → BoundsGives s b → d < b .ticks .0 → {st : List ℕ} {x : Run} → UntilGives (readOf s .graph) st (runAt s e 0) d x
+    pub played-record : {b : Bounded} → BoundsGives s b → d < b .ticks .0 → {x : Run} → UntilGives (readOf s .graph) (runAt s e 0) d x
         → (x ≡ runAt s e (r .played .0)) × (x .instant ≡ r .played .0)
     unfolding untilOf steps recordOf
     played-record {b} B l {x = x} U =
@@ -104,8 +104,11 @@ module _ {s e : List ℕ} {d : ℕ} {r : Lateness} (L : LateGives s e d r) (ok :
         let A = reader.taken s bytes (f .taken) in
         let i = U .as-seen in
         let p : r .played .0 ≡ min d (finishOf (graphIn s) (timesOf e)) = told .played ∙ rw (lt-leb (told .new / PARTS) d (rw (whole B) at l)) refl in
-        let q : x ≡ untilOf (readOf s .graph) (leftOf (runAt s e 0)) d = rw (i .0, i .2, i .3, i .4) at (U .ensured .1) in
-        let t = left-start (readOf s .graph) A (timesOf e) (none-past (readOf s .graph) e (times-fit (readOf s .graph) e (f .fit))) in
+        let fit = times-fit (readOf s .graph) e (f .fit) in
+        let past = none-past (readOf s .graph) e fit in
+        let fresh = fresh-start (readOf s .graph) A (timesOf e) past (fit .short) in
+        let q : x ≡ untilOf (readOf s .graph) (leftOf (runAt s e 0)) d = rw (i .1, i .2, i .3) at (U .ensured (readOf s .graph) (i .0) (rw (i .1) fresh)) in
+        let t = left-start (readOf s .graph) A (timesOf e) past in
         let z : x ≡ runAt s e (r .played .0) = q ∙ rw (t, p) refl in
         (z, ap (λ (y : Run). y .instant) z)
 

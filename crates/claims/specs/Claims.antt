@@ -5,7 +5,7 @@
 --   graphIn s                  the model's graph of the file s, which is accepted
 --   drawnIn s                  the model's graph that the records of a file give, accepted or not
 --   schedule s e               the list schedule of the file's graph with the times e
---   runAt s e t             the record of that schedule's state at the instant t
+--   runAt s e t                the record of that schedule's state at the instant t
 --   NoneFrom a b s             no row of document 01's table, from number a up to b - 1, holds for any place of the file
 --   Closed G                   the edges of G hold a cycle: a walk from a vertex to itself
 --   Answered s t               the reader's answer: it accepts, where no number applies; or it says no with the lowest number that applies
@@ -63,7 +63,7 @@ abbrev pub schedule : List ℕ → List ℕ → Schedule
 schedule s e = listSchedule (graphIn s) (timesOf e)
 
 abbrev pub runAt : List ℕ → List ℕ → ℕ → Run
-runAt s e t = recordOf (readOf s .graph .n) t (steps (graphIn s) t (begin (timesOf e)))
+runAt s e t = recordOf (graphIn s) t (steps (graphIn s) t (begin (timesOf e)))
 
 -- the refusal of a number at place 0
 abbrev pub at-0 : ℕ → Refusal

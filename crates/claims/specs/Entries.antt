@@ -23,7 +23,7 @@
 --                                    weights w
 --   RenewedGives .. w old v r        the summary r that old is brought up to date to, where w differs in the weight of v
 --   RankingGives gain n l            the ranking l by the gains of n vertices
---   UntilGives g st run d x          the record x of a run of the graph g up to tick d, from the record `run`
+--   UntilGives g run d x             the record x of a run of the graph g up to tick d, from the record `run`
 use mathlib.Core.Path.{_≡_}
 use mathlib.Core.List.{List}
 use Prim.Native.Nat.{ℕ}
@@ -59,6 +59,7 @@ use Rattle.summary.proofs.altered.Reads as renewed-reads
 use Rattle.ranks.proofs.ranking as ranking
 use Rattle.ranks.proofs.ranking.Reads as ranking-reads
 use Rattle.tick.specs.declared.Run.{Run}
+use Rattle.tick.specs.Lists.{GraphOf}
 use Rattle.tick.specs.declared.Report.{Report}
 use Rattle.tick.specs.declared.Ticked.{Ticked}
 use Rattle.schedule.specs.declared.Started.{Started}
@@ -188,10 +189,11 @@ abbrev pub RankingGives : List ℕ → ℕ → List ℕ → Type 0
 RankingGives gain n l =
     Allows ranking.ended (λ κs a x e. ranking-reads.Pre κs a × ranking-reads.Post κs a x e) (λ κs a x e. (now (a .0) ≡ gain) × (a .1 .0 ≡ n) × (x ≡ l))
 
-abbrev pub UntilGives : Graph → List ℕ → Run → ℕ → Run → Type 0
-UntilGives g st run d x =
-    Allows until.ended (λ κs a y w. until-reads.Pre κs a × until-reads.Post κs a y w)
-    (λ κs a y w. (a .0 ≡ g) × (now (a .1 .0) ≡ st) × (a .1 .1 .0 ≡ run) × (a .1 .1 .1 .0 ≡ d) × (y ≡ x))
+-- what is lent are the lists of the graph g
+abbrev pub UntilGives : Graph → Run → ℕ → Run → Type 0
+UntilGives g run d x =
+    Allows until.ended until-reads.Post
+    (λ κs a y w. GraphOf g (a .0) (a .1 .0) (now (a .1 .1 .0)) (now (a .1 .1 .1 .0)) (now (a .1 .1 .1 .1 .0)) (now (a .1 .1 .1 .1 .1 .0)) × (a .1 .1 .1 .1 .1 .1 .0 ≡ run) × (a .1 .1 .1 .1 .1 .1 .1 .0 ≡ d) × (y ≡ x))
 
 -- ---- for C and Rust
 

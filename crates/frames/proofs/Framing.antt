@@ -18,7 +18,7 @@ use Rattle.graph.specs.File.{records}
 use Rattle.graph.specs.Model.{asModel, from}
 use Rattle.graph.specs.declared.Graph.{Graph}
 use Rattle.starts.specs.Starts.{comesFrom}
-use Rattle.leaps.proofs.ByNumbers.{edges-counted, layout}
+use Rattle.ready.proofs.ByNumbers.{edges-counted, layout}
 use Rattle.choice.proofs.ByKind.{kinds-known}
 use Rattle.vset.specs.declared.Vset.{Vset}
 use Rattle.vset.specs.Members.{isIn, Members}

@@ -31,7 +31,7 @@ use Rattle.vset.specs.Members.{isIn}
 use Rattle.ready.specs.Ready.{isBehind}
 use Rattle.ready.proofs.Ancestors.{last-edge, behind-walk, edge-behind}
 use Rattle.ready.proofs.Standing.{ready-is, finished-is}
-use Rattle.leaps.proofs.ByNumbers.{settled-behind, edges-counted}
+use Rattle.ready.proofs.ByNumbers.{settled-behind, edges-counted}
 use Rattle.recorded.specs.Log.{isStart, isStop, who, instantAt, running, InForm}
 use Rattle.recorded.specs.Recorded.{runsIn, scheduleOf}
 use Rattle.recorded.specs.Rules.{rule19, rule20, waiting, rule22}

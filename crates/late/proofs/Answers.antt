@@ -54,7 +54,7 @@ module _ (g : Graph) (A : AcceptedGraph g) (l : List ℕ) (fit : Fitting g l) (d
 
   -- ---- by the run
 
-  module _ (begun : Run) (is-begun : begun ≡ recordOf (g .n) 0 (begin (timesOf l))) where
+  module _ (begun : Run) (is-begun : begun ≡ recordOf G 0 (begin (timesOf l))) where
     pub fresh : Fresh g begun
     fresh = subst (Fresh g) (sym is-begun) (fresh-start g A (timesOf l) (none-past g l fit) (fit .short))
 

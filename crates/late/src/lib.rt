@@ -3,16 +3,15 @@
 ghost use mathlib.Core.Path.{_≡_};
 ghost use Prim.Native.Nat.{min};
 ghost use lib.Dec.{leb};
-ghost use Rattle.model.specs.Places.{table};
 ghost use Rattle.model.specs.Bounds.{NewB1};
-ghost use Rattle.graph.specs.Model.{AcceptedGraph, asModel};
+ghost use Rattle.graph.specs.declared.Graph.{Graph};
+ghost use Rattle.graph.specs.Model.{asModel};
 ghost use Rattle.graph.specs.declared.Answer.the-variants.{Accepted, Refused};
-ghost use Rattle.starts.specs.Starts.{firstEdge};
+ghost use Rattle.tick.specs.Lists.{GraphOf};
 ghost use Rattle.times.specs.Times.{timesOf, Fitting};
 ghost use Rattle.leaps.specs.Finishes.{finishOf};
 ghost use Rattle.late.specs.Answers.{Told, Nothing, LateOf};
 use graph::Answer;
-use graph::Graph;
 use graph::Refusal;
 use units::Parts;
 use units::Ticks;
@@ -36,15 +35,22 @@ fn refused(refusal: Refusal) -> Lateness
 }
 
 // The run is played up to tick d: it has ended where nobody has ticks left then.
-fn looked_up(g: Graph, starts: &[u16; 129], times: &[u32], d: u32) -> Lateness
-    requires { ⌜ AcceptedGraph g ⌝ }
-    requires { ⌜ Fitting g (now times) ⌝ }
-    requires { ⌜ now starts ≡ table (firstEdge g) 129 ⌝ }
+fn looked_up(
+    kinds: usize,
+    n: usize,
+    cores: &[u8; 10],
+    kind: &[u8; 128],
+    edge: &[u16; 1024],
+    starts: &[u16; 129],
+    times: &[u32],
+    d: u32,
+) -> Lateness
+    requires { ⌜ ((g : Graph) × GraphOf g kinds n (now cores) (now kind) (now edge) (now starts) × Fitting g (now times)) ⌝ }
     ensures { λ r. ⌜ r .answer ≡ Accepted ⌝ }
-    ensures { λ r. ⌜ r .yes ≡ leb (finishOf (asModel g) (timesOf (now (times .entry)))) d ⌝ }
-    ensures { λ r. ⌜ r .played .0 ≡ min d (finishOf (asModel g) (timesOf (now (times .entry)))) ⌝ }
+    ensures { λ r. ⌜ ((g : Graph) → GraphOf g kinds n (now (cores .entry)) (now (kind .entry)) (now (edge .entry)) (now (starts .entry)) → Fitting g (now (times .entry)) → (r .yes ≡ leb (finishOf (asModel g) (timesOf (now (times .entry)))) d) × (r .played .0 ≡ min d (finishOf (asModel g) (timesOf (now (times .entry)))))) ⌝ }
 {
-    let run = leaps::until(g, starts, times::begun(g.n, times), d);
+    let begun = times::begun(n, edge, starts, times);
+    let run = leaps::until(kinds, n, cores, kind, edge, starts, begun, d);
     let left = run.left;
     let yes = vset::is_empty(ready::busy(left));
     Lateness {
@@ -55,13 +61,20 @@ fn looked_up(g: Graph, starts: &[u16; 129], times: &[u32], d: u32) -> Lateness
 }
 
 // By demand 3 no run ends after NEW-B-1, so that there is nothing to look up where that is at most d.
-fn decided(g: Graph, starts: &[u16; 129], times: &[u32], new: Parts, d: u32) -> Lateness
-    requires { ⌜ AcceptedGraph g ⌝ }
-    requires { ⌜ Fitting g (now times) ⌝ }
-    requires { ⌜ now starts ≡ table (firstEdge g) 129 ⌝ }
-    requires { ⌜ NewB1 (asModel g) (new .0) ⌝ }
+fn decided(
+    kinds: usize,
+    n: usize,
+    cores: &[u8; 10],
+    kind: &[u8; 128],
+    edge: &[u16; 1024],
+    starts: &[u16; 129],
+    times: &[u32],
+    new: Parts,
+    d: u32,
+) -> Lateness
+    requires { ⌜ ((g : Graph) × GraphOf g kinds n (now cores) (now kind) (now edge) (now starts) × Fitting g (now times)) ⌝ }
     ensures { λ r. ⌜ r .answer ≡ Accepted ⌝ }
-    ensures { λ r. ⌜ Told (asModel g) (timesOf (now (times .entry))) d r ⌝ }
+    ensures { λ r. ⌜ ((g : Graph) → GraphOf g kinds n (now (cores .entry)) (now (kind .entry)) (now (edge .entry)) (now (starts .entry)) → Fitting g (now (times .entry)) → NewB1 (asModel g) (new .0) → Told (asModel g) (timesOf (now (times .entry))) d r) ⌝ }
 {
     let bound = new.ticks();
     if bound.0 <= d as u64 {
@@ -71,7 +84,7 @@ fn decided(g: Graph, starts: &[u16; 129], times: &[u32], new: Parts, d: u32) -> 
             played: Ticks(0),
         };
     }
-    looked_up(g, starts, times, d)
+    looked_up(kinds, n, cores, kind, edge, starts, times, d)
 }
 
 pub fn late(file: &[u8], times: &[u32], d: u32) -> Lateness
@@ -96,21 +109,12 @@ pub fn late(file: &[u8], times: &[u32], d: u32) -> Lateness
     match answer {
         Answer::Refused(refusal) => refused(refusal),
         Answer::Accepted => {
-            let g = Graph {
-                kinds: h.kinds,
-                n: h.n,
-                edges: h.edges,
-                cores,
-                kind,
-                wcet,
-                edge,
-            };
-            let judged = times::judge(g, times);
+            let judged = times::judge(h.n, &wcet, times);
             match judged {
                 Answer::Refused(refusal) => refused(refusal),
                 Answer::Accepted => {
                     let new = bounds::new_of(h, &cores, &kind, &wcet, &edge, &starts, &order);
-                    decided(g, &starts, times, new, d)
+                    decided(h.kinds, h.n, &cores, &kind, &edge, &starts, times, new, d)
                 }
             }
         }

@@ -7,7 +7,7 @@ use native.Mathlib.Omega.{arith}
 use lib.Dec.{ltb, leb}
 use lib.ListN.{getD}
 use borrow.Author.Tests.{le-leb, lt-leb}
-use Rattle.model.specs.Places.{pick, any, every}
+use Rattle.model.specs.Places.{pick, any, every, padded}
 use Rattle.model.specs.Graph as model
 use Rattle.model.specs.ListSchedule.{State, finished, begin, chosen, leap, steps}
 use Rattle.model.proofs.Bools.{clash, le-or-lt, not-true}
@@ -15,7 +15,7 @@ use Rattle.model.proofs.Listed.{chosen-ready}
 use Rattle.model.proofs.Leap.{ready-past}
 use Rattle.graph.specs.declared.Graph.{Graph}
 use Rattle.graph.specs.Model.{asModel, AcceptedGraph}
-use Rattle.tick.specs.Run.{leftOf, stateOf, recordOf, over}
+use Rattle.tick.specs.Run.{leftOf, stateOf, awaited, recordOf, over}
 use Rattle.tick.proofs.Records.{state-record}
 use Rattle.tick.proofs.Ticking.{over-is}
 use Rattle.ready.specs.Ready.{someLeft}
@@ -40,25 +40,27 @@ module _ (g : Graph) (A : AcceptedGraph g) (e : ℕ → ℕ) (e-past : (v : ℕ)
       (not-true (chosen G (steps G t (begin e)) v) (λ x. clash (chosen-ready G (steps G t (begin e)) v x) (ready-past (A .well-formed) (steps G t (begin e) .rest) v h (rest-past t v h))))
 
   pub state-at : (t : ℕ) → stateOf (recordAt g e t) ≡ steps G t (begin e)
-  state-at t = state-record (g .n) t (steps G t (begin e)) (A .few-vertices) (rest-past t) (ran-past t)
+  unfolding asModel
+  state-at t = state-record G t (steps G t (begin e)) (A .few-vertices) (rest-past t) (ran-past t)
 
   pub left-at : (t : ℕ) → leftOf (recordAt g e t) ≡ steps G t (begin e) .rest
   unfolding stateOf
   left-at t = ap (λ (x : State). x .rest) (state-at t)
 
   -- the record at the start, from which a run can be played
-  pub left-start : leftOf (recordOf (g .n) 0 (begin e)) ≡ e
+  pub left-start : leftOf (recordOf G 0 (begin e)) ≡ e
   unfolding steps
   left-start = left-at 0
 
-  pub fresh-start : ((v : ℕ) → v < g .n → e v ≤ getD (g .wcet) v 0) → Fresh g (recordOf (g .n) 0 (begin e))
-  unfolding steps stateOf recordOf
+  pub fresh-start : ((v : ℕ) → v < g .n → e v ≤ getD (g .wcet) v 0) → Fresh g (recordOf G 0 (begin e))
+  unfolding steps stateOf recordOf asModel
   fresh-start short = record {
     agrees = refl;
     at-start = refl;
     short = λ v h. omega (arith, ap (λ (c : ℕ → ℕ). c v) left-start, short v h);
     past = λ v h. ap (λ (c : ℕ → ℕ). c v) left-start ∙ e-past v h;
     unmarked = λ v. ap (λ (x : State). x .ran v) (state-at 0);
+    numbers = ap (λ (c : ℕ → ℕ). padded 128 (awaited G c) (g .n)) (sym left-start);
   }
 
   -- THEOREM. Up to the finish, the record at the instant t is over exactly where t is the finish.

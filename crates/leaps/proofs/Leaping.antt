@@ -32,7 +32,6 @@ use Rattle.ready.specs.Ready.{someLeft}
 use Rattle.waiting.specs.Waiting.{Settled}
 use Rattle.remains.specs.Remains.{TOP}
 use Rattle.remains.proofs.Fewest.{least-none}
-use Rattle.leaps.proofs.ByNumbers.{settled-behind}
 use Rattle.leaps.specs.Finishes.{doneAt, finishAt, finishOf}
 use Rattle.leaps.proofs.Finishes.{all-done}
 use Rattle.tick.proofs.Moved.{moved-state, less-left, spend}
@@ -81,7 +80,7 @@ module _ (g : Graph) (A : AcceptedGraph g) where
 
     -- the record after the leap stands for the state after the leap
     leaps-to : stateOf (new .run) ≡ leap G (leapt .d) s
-    leaps-to = moved-state g A (w .run) (kept .sound .agrees) (kept .sound .past) (leapt .d) (new .run) (leapt .moved)
+    leaps-to = moved-state g A (w .run) (kept .sound .past) (leapt .d) (new .run) (leapt .moved)
 
     there : stateOf (new .run) ≡ steps G (new .run .instant) (begin e)
     unfolding asModel
@@ -122,7 +121,7 @@ module _ (g : Graph) (A : AcceptedGraph g) where
         ⊎-elim (λ x. x)
         (λ (x : unfinished w v ≡ false).
         let f = finished-tells (A .well-formed) (leftOf (w .run)) (A .acyclic) .sound v l (true-of (finished G (leftOf (w .run)) v) (sym (unfinished-is g A w (kept .sound) v l) ∙ x)) in
-        absurd (clash (finished-tells (A .well-formed) (leftOf (new .run)) (A .acyclic) .complete v l (fin-less (less-left g A (w .run) (kept .sound .agrees) (kept .sound .past) (leapt .d) (new .run) (leapt .moved)) f)) (not-is-true (finished G (leftOf (new .run)) v) (sym (unfinished-is g A new (leapt .sound) v l) ∙ u))))
+        absurd (clash (finished-tells (A .well-formed) (leftOf (new .run)) (A .acyclic) .complete v l (fin-less (less-left g A (w .run) (kept .sound .past) (leapt .d) (new .run) (leapt .moved)) f)) (not-is-true (finished G (leftOf (new .run)) v) (sym (unfinished-is g A new (leapt .sound) v l) ∙ u))))
         (cases (unfinished w v))
       where
         true-of : (b : Bool) → not b ≡ false → b ≡ true
@@ -132,7 +131,7 @@ module _ (g : Graph) (A : AcceptedGraph g) where
     fewer-ticks : sum (leftOf (new .run)) (g .n) + leapt .d ≤ sum (leftOf (w .run)) (g .n)
     fewer-ticks =
         let u = one-runs g A w (kept .sound) some-busy in
-        spend g A (w .run) (kept .sound .agrees) (kept .sound .past) (leapt .d) (new .run) (leapt .moved) (u .0) (u .1) (u .2) (leapt .enough (u .0) (u .2))
+        spend g A (w .run) (kept .sound .past) (leapt .d) (new .run) (leapt .moved) (u .0) (u .1) (u .2) (leapt .enough (u .0) (u .2))
 
     stamp-at : (v : ℕ) → v < g .n → getD (new .finishes) v 0 ≡ pick (unfinished w v && not (unfinished new v)) (new .run .instant) (getD (w .finishes) v 0)
     unfolding stamped
@@ -217,7 +216,7 @@ module _ (g : Graph) (A : AcceptedGraph g) where
     in-time-start = omega (arith, fresh .at-start, A .few-vertices, sum-most (leftOf r) 1000000 (g .n) (λ v l. omega (arith, fresh .short v l, A .short v l)))
 
     module _ (w : Work) (is-run : w .run ≡ r) (is-least : w .least ≡ TOP) (is-busy : (v : ℕ) → isIn (w .busy) v ≡ someLeft (r .left) v)
-        (settled : Settled (g .edge) (g .edges) (w .waiting) (isIn (w .busy)) (w .behind)) (is-table : w .finishes ≡ replicate 128 0) (long : length (w .run .left) ≡ 128) where
+        (settled : Settled (g .edge) (g .edges) (w .run .waiting) (isIn (w .busy)) (w .behind)) (is-table : w .finishes ≡ replicate 128 0) (long : length (w .run .left) ≡ 128) where
       sound-start : Sound g w
       sound-start = record {
         agrees = rw is-run (fresh .agrees);
@@ -227,7 +226,6 @@ module _ (g : Graph) (A : AcceptedGraph g) where
         goes-on = λ v t. absurd (clash (rw is-run at t) (fresh .unmarked v));
         fewest = rw is-least (least-none (leftOf (w .run)) (isIn (w .run .ran)) TOP (rw is-run (fresh .unmarked)));
         is-busy = rw is-run is-busy;
-        is-behind = settled-behind g A (w .waiting) (isIn (w .busy)) (w .behind) settled;
         settled = settled;
         long-left = long;
         long-finishes = ap (λ (l : List ℕ). length l) is-table ∙ length-replicate {A = ℕ} 128 0;

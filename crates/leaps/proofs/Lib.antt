@@ -1,6 +1,5 @@
 -- Laws that belong to no one function.
 pub mod OneByOne
-pub mod ByNumbers
 pub mod OneLeap
 pub mod Finishes
 pub mod Instants

@@ -2,7 +2,7 @@
 use mathlib.Core.Path.{_≡_, refl, sym, ap, ap₂, _∙_, subst, fun-ext}
 use mathlib.Core.Logic.{_⊎_, inl, inr, ⊎-elim}
 use mathlib.Core.List.{List}
-use mathlib.Core.Bool.{Bool, true, false, not, _&&_, _||_, or-false, and-true, and-false}
+use mathlib.Core.Bool.{Bool, true, false, not, _&&_, _||_}
 use Prim.Native.Nat.{ℕ, _+_, _-_, _≤_, _<_, zero-le, min}
 use native.Mathlib.Omega.{arith}
 use lib.Dec.{eqb, ltb}
@@ -24,14 +24,14 @@ use Rattle.vset.specs.Members.{isIn, Members}
 use Rattle.tick.specs.declared.Run.{Run}
 use Rattle.tick.specs.Run.{MOST, leftOf, stateOf, recordOf, over}
 use Rattle.ready.specs.Ready.{someLeft, isBehind}
-use Rattle.waiting.specs.Waiting.{entering, Unsettled, Settled}
+use Rattle.waiting.specs.Waiting.{Unsettled, Settled}
 use Rattle.remains.specs.Remains.{place, TOP, lowered, LeastFrom}
 use Rattle.remains.proofs.Fewest.{least-ext}
 use Rattle.choice.specs.Choice.{OfKinds, chosenBy}
 use Rattle.ready.proofs.Ancestors.{last-edge, behind-walk, walk-behind}
-use Rattle.tick.proofs.Records.{still-left, moved-on, after-leap}
-use Rattle.tick.proofs.Ticking.{over-is, finished-by, on-is, on-able, on-runs}
-use Rattle.leaps.proofs.ByNumbers.{settled-behind}
+use Rattle.tick.proofs.Records.{lowered-at}
+use Rattle.tick.proofs.Ticking.{over-is, finished-by, on-is, on-able, on-runs, busy-after, unsettled, moves}
+use Rattle.ready.proofs.ByNumbers.{settled-behind}
 use Rattle.tick.proofs.Moved.{moved-state, moved-left, spend}
 use Rattle.leaps.specs.Leaps.{Work, Stamped, unfinished, Sound, Leapt}
 
@@ -56,14 +56,14 @@ module _ (g : Graph) (A : AcceptedGraph g) where
   unfolding unfinished
   unfinished-is w s v l =
       not-or (isIn (w .busy) v) (isIn (w .behind) v)
-      ∙ ap not (sym (finished-by g A (w .run) (s .past) (isIn (w .busy)) (s .is-busy) (isIn (w .behind)) (s .is-behind) v l))
+      ∙ ap not (sym (finished-by g A (w .run) (s .past) (isIn (w .busy)) (s .is-busy) (w .run .waiting) (w .behind) (s .settled) v l))
 
   -- and there is none from N on
   pub unfinished-past : (w : Work) → Sound g w → (v : ℕ) → g .n ≤ v → unfinished w v ≡ false
   unfolding unfinished someLeft leftOf asModel
   unfinished-past w s v l =
       ap₂ _||_ (s .is-busy v ∙ ap (ltb 0) (s .past v l) ∙ le-ltb 0 0 zero-le)
-      (s .is-behind v ∙ not-true (isBehind G (isIn (w .busy)) v) (λ t.
+      (settled-behind g A (w .run .waiting) (isIn (w .busy)) (w .behind) (s .settled) v ∙ not-true (isBehind G (isIn (w .busy)) v) (λ t.
       let x = behind-walk (isIn (w .busy)) v t in
       let e = last-edge (x .2) in
       omega (arith, A .well-formed .to (e .0) v (e .1))))
@@ -87,13 +87,13 @@ module _ (g : Graph) (A : AcceptedGraph g) where
       (is-able : (v : ℕ) → able v ≡ isIn (w .busy) v && not (isIn (w .behind) v)) (words : List ℕ) (W : OfKinds words (g .kind) (g .n))
       (is-on : (v : ℕ) → on v ≡ chosenBy (g .kinds) (g .cores) words able (isIn (w .run .ran)) v) where
     pub on-chosen : (v : ℕ) → on v ≡ chosen G (stateOf (w .run)) v
-    on-chosen = on-is g A (w .run) (sound .past) (isIn (w .busy)) (sound .is-busy) (isIn (w .behind)) (sound .is-behind) able is-able words W on is-on
+    on-chosen = on-is g A (w .run) (sound .past) (isIn (w .busy)) (sound .is-busy) (w .run .waiting) (w .behind) (sound .settled) able is-able words W on is-on
 
     on-has : (v : ℕ) → on v ≡ true → (v < g .n) × (1 ≤ leftOf (w .run) v)
-    on-has = on-runs g A (w .run) (sound .past) (isIn (w .busy)) (sound .is-busy) (isIn (w .behind)) (sound .is-behind) able is-able words W on is-on
+    on-has = on-runs g A (w .run) (sound .past) (isIn (w .busy)) (sound .is-busy) (w .run .waiting) (w .behind) (sound .settled) able is-able words W on is-on
 
     able-on : (v : ℕ) → on v ≡ true → able v ≡ true
-    able-on = on-able g A (w .run) (sound .past) (isIn (w .busy)) (sound .is-busy) (isIn (w .behind)) (sound .is-behind) able is-able words W on is-on
+    able-on = on-able g A (w .run) (sound .past) (isIn (w .busy)) (sound .is-busy) (w .run .waiting) (w .behind) (sound .settled) able is-able words W on is-on
 
     -- whoever ran can go on, so it does
     still-on : (v : ℕ) → isIn (w .run .ran) v ≡ true → on v ≡ true
@@ -138,28 +138,14 @@ module _ (g : Graph) (A : AcceptedGraph g) where
       module _ (left : List ℕ) (over ran busy : Vset) (is-left : left ≡ table (lowered (w .run .left) on d) 128)
           (is-over : (v : ℕ) → isIn over v ≡ on v && eqb (getD left v 0) 0) (is-ran : Members ran (λ v. on v && not (isIn over v)))
           (busy-is : (v : ℕ) → isIn busy v ≡ isIn (w .busy) v && not (isIn over v)) where
-        abbrev next : Run
-        next = record { n = w .run .n; instant = w .run .instant + d; left = left; ran = ran }
+        left-after : (v : ℕ) → getD left v 0 ≡ leftOf (w .run) v - pick (chosen G (stateOf (w .run)) v) d 0
+        unfolding leftOf
+        left-after v =
+            lowered-at (w .run .left) on d left (λ v h. sound .past v (omega (arith, A .few-vertices))) is-left v
+            ∙ ap (λ (b : Bool). getD (w .run .left) v 0 - pick b d 0) (on-chosen v)
 
-        moved : next ≡ recordOf (w .run .n) (w .run .instant + d) (leap G d (stateOf (w .run)))
-        moved =
-            moved-on (w .run) on d left (isIn over) ran (rw (sound .agrees) (A .few-vertices)) (λ v l. sound .past v (rw (← sound .agrees) l)) is-left is-over is-ran
-            ∙ ap (recordOf (w .run .n) (w .run .instant + d)) (after-leap G d (stateOf (w .run)) on on-chosen)
-
-        left-after : (v : ℕ) → leftOf next v ≡ leftOf (w .run) v - pick (chosen G (stateOf (w .run)) v) d 0
-        left-after = moved-left g A (w .run) (sound .agrees) (sound .past) d next moved
-
-        -- who has run out of ticks is no longer busy, and nobody else
         is-busy : (v : ℕ) → isIn busy v ≡ someLeft left v
-        unfolding someLeft leftOf
-        is-busy v = busy-is v ∙ ap (λ (b : Bool). isIn (w .busy) v && not b) (is-over v) ∙ go (cases (on v))
-          where
-            go : (on v ≡ true) ⊎ (on v ≡ false) → isIn (w .busy) v && not (on v && eqb (getD left v 0) 0) ≡ ltb 0 (getD left v 0)
-            go (inl t) = rw (t, sound .is-busy v ∙ lt-ltb 0 (getD (w .run .left) v 0) (on-has v t .1)) (still-left true (getD left v 0))
-            go (inr f) =
-                let c : chosen G (stateOf (w .run)) v ≡ false = sym (on-chosen v) ∙ f in
-                let z : getD (w .run .left) v 0 ≡ getD left v 0 = omega (arith, rw c at (left-after v)) in
-                rw f (and-true (isIn (w .busy) v) ∙ sound .is-busy v ∙ ap (ltb 0) z)
+        is-busy = busy-after g A (w .run) (sound .past) (isIn (w .busy)) (sound .is-busy) (w .run .waiting) (w .behind) (sound .settled) able is-able words W on is-on d left (isIn over) (isIn busy) is-left is-over busy-is
 
         -- where the room does not cut the leap short, the vertex with the fewest ticks left has none now
         one-ends : d ≡ fewest → count (isIn busy) 128 < count (isIn (w .busy)) 128
@@ -182,43 +168,29 @@ module _ (g : Graph) (A : AcceptedGraph g) where
             (λ (l : room < fewest). let cut : d ≡ room = omega (arith, is-d) in inr cut)
             (le-or-lt fewest room)
 
-        still-fair : Fair G (stateOf next)
-        still-fair = subst (Fair G) (sym (moved-state g A (w .run) (sound .agrees) (sound .past) d next moved)) (fair-leap G (stateOf (w .run)) (sound .fair) d)
-
-        fewer-ticks : sum (leftOf next) (g .n) + d ≤ sum (leftOf (w .run)) (g .n)
-        fewer-ticks =
-            let u = one-runs w sound some in
-            spend g A (w .run) (sound .agrees) (sound .past) d next moved (u .0) (u .1) (u .2) (enough (u .0) (u .2))
-
         -- those that have run out of ticks are finished, and have their successors to tell
-        pub unsettled : Unsettled (g .edge) (g .edges) (w .waiting) (isIn busy) (isIn (w .behind)) (isIn over)
-        unsettled = record {
-          long = sound .settled .long;
-          counts = λ v h. sound .settled .counts v h ∙ ap (λ (p : ℕ → Bool). entering (g .edge) p (g .edges) v) (fun-ext same);
-          stand = sound .settled .stand .are;
-          apart = λ v t. ap₂ _||_ (busy-is v ∙ ap (λ (b : Bool). isIn (w .busy) v && not b) t ∙ and-false (isIn (w .busy) v))
-              (not-is-true (isIn (w .behind) v) (right-of (isIn (w .busy) v) (not (isIn (w .behind) v)) (sym (is-able v) ∙ able-on v (ran-on v t))));
-        }
-          where
-            ran-on : (v : ℕ) → isIn over v ≡ true → on v ≡ true
-            ran-on v t = left-of (on v) (eqb (getD left v 0) 0) (sym (is-over v) ∙ t)
-
-            moved-over : (b h o : Bool) → (o ≡ true → b ≡ true) → b || h ≡ ((b && not o) || h) || o
-            moved-over true true true f = refl
-            moved-over true true false f = refl
-            moved-over true false true f = refl
-            moved-over true false false f = refl
-            moved-over false h true f = absurd (clash (f refl) refl)
-            moved-over false h false f = sym (or-false h)
-
-            same : (u : ℕ) → isIn (w .busy) u || isIn (w .behind) u ≡ (isIn busy u || isIn (w .behind) u) || isIn over u
-            same u =
-                moved-over (isIn (w .busy) u) (isIn (w .behind) u) (isIn over u) (λ t. left-of (isIn (w .busy) u) (not (isIn (w .behind) u)) (sym (is-able u) ∙ able-on u (ran-on u t)))
-                ∙ ap (λ (b : Bool). (b || isIn (w .behind) u) || isIn over u) (sym (busy-is u))
+        pub untold : Unsettled (g .edge) (g .edges) (w .run .waiting) (isIn busy) (isIn (w .behind)) (isIn over)
+        untold = unsettled g A (w .run) (sound .past) (isIn (w .busy)) (sound .is-busy) (w .run .waiting) (w .behind) (sound .settled) able is-able words W on is-on d left (isIn over) (isIn busy) is-left is-over busy-is
 
         module _ (few : ℕ) (is-few : LeastFrom (place left) (λ v. on v && not (eqb (getD left v 0) 0)) TOP few) (hind new : Vset) (wait fins : List ℕ) (settled : Settled (g .edge) (g .edges) wait (isIn busy) hind)
             (is-new : (v : ℕ) → isIn new v ≡ (isIn (w .busy) v || isIn (w .behind) v) && not (isIn busy v || isIn hind v))
             (stamps : Stamped (w .finishes) (isIn new) (w .run .instant + d) fins) where
+          abbrev next : Run
+          next = record { n = w .run .n; instant = w .run .instant + d; left = left; ran = ran; waiting = wait }
+
+          moved : next ≡ recordOf G (w .run .instant + d) (leap G d (stateOf (w .run)))
+          moved =
+              moves g A (w .run) (sound .past) (isIn (w .busy)) (sound .is-busy) (w .run .waiting) (w .behind) (sound .settled) able is-able words W on is-on d left (isIn over) (isIn busy) is-left is-over busy-is
+              (sound .agrees) ran hind wait is-ran settled
+
+          still-fair : Fair G (stateOf next)
+          still-fair = subst (Fair G) (sym (moved-state g A (w .run) (sound .past) d next moved)) (fair-leap G (stateOf (w .run)) (sound .fair) d)
+
+          fewer-ticks : sum (leftOf next) (g .n) + d ≤ sum (leftOf (w .run)) (g .n)
+          fewer-ticks =
+              let u = one-runs w sound some in
+              spend g A (w .run) (sound .past) d next moved (u .0) (u .1) (u .2) (enough (u .0) (u .2))
+
           -- who ran on has ticks left, and stands behind nobody: nobody has become busy
           goes-on : (v : ℕ) → isIn ran v ≡ true → isIn busy v && not (isIn hind v) ≡ true
           unfolding asModel
@@ -239,7 +211,7 @@ module _ (g : Graph) (A : AcceptedGraph g) where
               behind : isIn hind v ≡ true → isIn (w .behind) v ≡ true
               behind h =
                   let x = behind-walk (isIn busy) v (sym (settled-behind g A wait (isIn busy) hind settled v) ∙ h) in
-                  sound .is-behind v ∙ walk-behind (isIn (w .busy)) (A .well-formed) (A .acyclic) (x .0) v (on-has v runs .0) (left-of (isIn (w .busy) (x .0)) (not (isIn over (x .0))) (sym (busy-is (x .0)) ∙ x .1)) (x .2)
+                  settled-behind g A (w .run .waiting) (isIn (w .busy)) (w .behind) (sound .settled) v ∙ walk-behind (isIn (w .busy)) (A .well-formed) (A .acyclic) (x .0) v (on-has v runs .0) (left-of (isIn (w .busy) (x .0)) (not (isIn over (x .0))) (sym (busy-is (x .0)) ∙ x .1)) (x .2)
 
           fewest-after : LeastFrom (leftOf next) (isIn ran) TOP few
           unfolding leftOf
@@ -249,7 +221,7 @@ module _ (g : Graph) (A : AcceptedGraph g) where
               turn true b = refl
               turn false b = refl
 
-          pub leapt : Leapt g room w (record { run = next; least = few; busy = busy; behind = hind; waiting = wait; finishes = fins })
+          pub leapt : Leapt g room w (record { run = next; least = few; busy = busy; behind = hind; finishes = fins })
           unfolding unfinished recordOf stateOf
           leapt = record {
             d = d;
@@ -261,13 +233,12 @@ module _ (g : Graph) (A : AcceptedGraph g) where
             fewer = fewer;
             sound = record {
               agrees = sound .agrees;
-              past = λ v l. omega (arith, left-after v, sound .past v l);
+              past = λ v l. omega (arith, moved-left g A (w .run) (sound .past) d next moved v, sound .past v l);
               fair = still-fair;
               in-time = omega (arith, fewer-ticks, sound .in-time);
               goes-on = goes-on;
               fewest = fewest-after;
               is-busy = is-busy;
-              is-behind = settled-behind g A wait (isIn busy) hind settled;
               settled = settled;
               long-left = ap (λ (l : List ℕ). length l) is-left ∙ table-length (lowered (w .run .left) on d) 128;
               long-finishes = stamps .long;

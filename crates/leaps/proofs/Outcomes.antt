@@ -7,7 +7,7 @@ use Rattle.leaps.proofs.play as play
 use Rattle.leaps.proofs.play.Reads as play-reads
 
 pub until-one : OneOutcome until.ended until-reads.Pre until-reads.Post
-until-one κs a r r′ ws ws′ pre p q = (p ∙ sym q, refl)
+until-one κs a r r′ ws ws′ pre p q = (p (pre .0) (pre .1) (pre .2) ∙ sym (q (pre .0) (pre .1) (pre .2)), refl)
 
 pub play-one : OneOutcome play.ended play-reads.Pre play-reads.Post
-play-one κs a r r′ ws ws′ pre p q = (p ∙ sym q, refl)
+play-one κs a r r′ ws ws′ pre p q = (p (pre .0) (pre .1) (pre .2) ∙ sym (q (pre .0) (pre .1) (pre .2)), refl)

@@ -16,11 +16,14 @@ use Rattle.graph.specs.Model.{asModel, AcceptedGraph}
 use Rattle.vset.specs.Members.{isIn}
 use Rattle.tick.specs.declared.Run.{Run}
 use Rattle.tick.specs.Run.{MOST, leftOf, recordOf}
+use Rattle.tick.specs.Lists.{GraphOf}
 use Rattle.tick.proofs.Records.{record-state}
+use Rattle.tick.proofs.Awaited.{settled-awaited}
+use Rattle.ready.specs.Ready.{someLeft}
 use Rattle.starts.specs.Starts.{firstEdge}
 use Rattle.remains.specs.Remains.{TOP}
 use Rattle.leaps.specs.Finishes.{doneAt, finishOf}
-use Rattle.leaps.specs.Leaps.{Work, workOf, GraphOf, Timed, Leapt, Fresh, Kept, recordAt, untilOf, Stopped, endOf}
+use Rattle.leaps.specs.Leaps.{Work, workOf, Timed, Leapt, Fresh, Kept, recordAt, untilOf, Stopped, endOf}
 use Rattle.leaps.specs.declared.Moment.{Moment}
 use Rattle.leaps.specs.declared.Ended.{Ended}
 use Rattle.leaps.proofs.Leaping.{in-time-start, later, keeps-on, not-sooner, none-busy, at-finish, all-stamped}
@@ -71,13 +74,13 @@ module _ (g : Graph) (A : AcceptedGraph g) (e : ℕ → ℕ) (d : ℕ) where
 
     -- THEOREM. The record is that of the list schedule, at the instant d or at the finish; and where the finish is at most d, each vertex has
     -- its finish instant.
-    pub stops : m .ran .lo < 2 ^ 64 → m .ran .hi < 2 ^ 64 → Stopped g e d m left fins
-    unfolding untilOf
+    pub stops : m .ran .lo < 2 ^ 64 → m .ran .hi < 2 ^ 64 → Stopped g e d m left waiting fins
+    unfolding untilOf someLeft leftOf
     stops low high =
         let s = P .kept .sound in
         record {
-          run = record-state (w .run) (A .few-vertices) (s .long-left) (s .past) low high
-              ∙ ap (recordOf (g .n) (m .instant)) (P .kept .state)
+          run = record-state g A (w .run) refl (s .long-left) (s .past) low high (settled-awaited g A (leftOf (w .run)) (isIn (m .busy)) (s .is-busy) waiting (m .behind) (s .settled))
+              ∙ ap (recordOf (asModel g) (m .instant)) (P .kept .state)
               ∙ ap (recordAt g e) stops-at;
           whole = λ h. all-stamped g A e w (P .kept) (none-busy g A e w (P .kept) (omega (arith, stops-at)));
         }
@@ -100,13 +103,13 @@ module _ (g : Graph) (A : AcceptedGraph g) where
     unfolding finishOf asModel
     in-time = omega (arith, in-time-start g A r fresh, first-le (λ t. every (doneAt (asModel g) (leftOf r) t) (g .n)) (sum (leftOf r) (g .n)))
 
-    pub timed : length (r .left) ≡ 128 → Timed g (r .left)
+    pub timed : length (r .left) ≡ 128 → Timed g (r .left) (r .waiting)
     unfolding leftOf
-    timed long = record { long = long; short = fresh .short; past = fresh .past }
+    timed long = record { long = long; short = fresh .short; past = fresh .past; numbers = fresh .numbers }
 
-    pub ran-whole : (m : Moment) (left fins : List ℕ) → Stopped g (leftOf r) TOP m left fins → _≡_ {A = Ended} (record { instant = m .instant; finishes = fins }) (endOf g (leftOf r))
+    pub ran-whole : (m : Moment) (left wait fins : List ℕ) → Stopped g (leftOf r) TOP m left wait fins → _≡_ {A = Ended} (record { instant = m .instant; finishes = fins }) (endOf g (leftOf r))
     unfolding endOf untilOf recordOf
-    ran-whole m left fins S =
+    ran-whole m left wait fins S =
         let t : m .instant ≡ min TOP (finishOf (asModel g) (leftOf r)) = ap (λ (x : Run). x .instant) (S .run) in
         let f : m .instant ≡ finishOf (asModel g) (leftOf r) = omega (arith, t, in-time) in
         ap₂ {C = Ended} (λ (x : ℕ) (l : List ℕ). record { instant = x; finishes = l }) f (S .whole (omega (arith, in-time)))

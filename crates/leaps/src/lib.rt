@@ -1,38 +1,31 @@
 // A run by leaps, whole or up to a tick: between two finishes the same vertices run in every tick, so that all those ticks are taken at
 // once. The cost does not grow with the execution times: each leap ends the ticks of one vertex at least, but for a last one that is cut
-// short. Inside, the graph's lists are lent one by one, since a graph by value is copied on its way; what is required and ensured there is
-// said of the graph that they are.
+// short. The graph's lists are lent one by one, since a graph by value is copied on its way; what is required and ensured is said of the
+// graph that they are.
 ghost use mathlib.Core.Path.{_≡_};
 ghost use Prim.Native.Nat.{_<_};
 ghost use lib.ListN.{length, replicate};
-ghost use Rattle.model.specs.Places.{count, table};
+ghost use Rattle.model.specs.Places.{count};
 ghost use Rattle.graph.specs.declared.Graph.{Graph};
 ghost use Rattle.graph.specs.Model.{AcceptedGraph};
 ghost use Rattle.vset.specs.Members.{isIn};
 ghost use Rattle.remains.specs.Remains.{place};
 ghost use Rattle.tick.specs.Run.{leftOf};
-ghost use Rattle.starts.specs.Starts.{firstEdge};
-ghost use Rattle.leaps.specs.Leaps.{Stamped, workOf, EdgesOf, ListsOf, GraphOf, Timed, Sound, Leapt, Fresh, Kept, untilOf, Stopped, endOf};
-use graph::Graph;
+ghost use Rattle.tick.specs.Lists.{ListsOf, GraphOf};
+ghost use Rattle.leaps.specs.Leaps.{Stamped, workOf, Timed, Sound, Leapt, Fresh, Kept, untilOf, Stopped, endOf};
 use tick::Run;
 use vset::Vset;
 
 // A run between two leaps: the instant, the vertices that ran up to it and have ticks left, the fewest that one of these has left, all
 // that have ticks left, and those that stand behind them; an unfinished vertex is in either of the last two. Three tables go with it,
-// and a leap changes them where they stand: what is left of each vertex, how many unfinished predecessors it waits for, and the finish
-// instants.
+// and a leap changes them where they stand: what is left of each vertex and how many unfinished predecessors it waits for, which are those
+// of the run record, and the finish instants.
 pub struct Moment {
     pub instant: u64,
     pub ran: Vset,
     pub least: u32,
     pub busy: Vset,
     pub behind: Vset,
-}
-
-// A run at instant 0, and the numbers of unfinished predecessors.
-pub struct Outset {
-    pub moment: Moment,
-    pub waiting: [u8; 128],
 }
 
 // The end of a run: the finish, and the finish instants.
@@ -102,48 +95,42 @@ fn leap(
 }
 
 // Instant 0. What is finished there has its finish instant already: the table of these begins with zeros.
-fn at_start(n: usize, left: &[u32; 128], edge: &[u16; 1024], starts: &[u16; 129]) -> Outset
-    requires { ⌜ ((g : Graph) × EdgesOf g n (now edge) (now starts) × Timed g (now left)) ⌝ }
-    ensures { λ r. ⌜ r .moment .instant ≡ 0 ⌝ }
-    ensures { λ r. ⌜ ((g : Graph) → EdgesOf g n (now (edge .entry)) (now (starts .entry)) → Timed g (now (left .entry)) → Kept g (place (now (left .entry))) (workOf g (r .moment) (now (left .entry)) (r .waiting) (replicate 128 0))) ⌝ }
+fn at_start(left: &[u32; 128], waiting: &[u8; 128]) -> Moment
+    ensures { λ r. ⌜ r .instant ≡ 0 ⌝ }
+    ensures { λ r. ⌜ ((g : Graph) → AcceptedGraph g → Timed g (now (left .entry)) (now (waiting .entry)) → Kept g (place (now (left .entry))) (workOf g r (now (left .entry)) (now (waiting .entry)) (replicate 128 0))) ⌝ }
 {
     let all = *left;
-    let busy = ready::busy(all);
-    let begun = waiting::begun(edge, starts, n, busy);
-    let behind = begun.behind;
-    let waiting = begun.waiting;
+    let numbers = *waiting;
     let ran = vset::none();
-    let moment = Moment {
+    Moment {
         instant: 0,
         ran,
         least: remains::TOP,
-        busy,
-        behind,
-    };
-    Outset { moment, waiting }
+        busy: ready::busy(all),
+        behind: waiting::held(numbers),
+    }
 }
 
-// Leap after leap until no vertex has ticks left or the instant is d: at most N of them. The table holds what is left of each vertex at the
-// start, and then at the end.
-fn up_to<'a>(
+// Leap after leap until no vertex has ticks left or the instant is d: at most N of them. The tables hold what is left of each vertex and the
+// numbers of unfinished predecessors at the start, and then at the end.
+fn up_to(
     kinds: usize,
     n: usize,
-    cores: &'a [u8; 10],
-    kind: &'a [u8; 128],
-    edge: &'a [u16; 1024],
+    cores: &[u8; 10],
+    kind: &[u8; 128],
+    edge: &[u16; 1024],
     starts: &[u16; 129],
     d: u32,
     left: &mut [u32; 128],
+    waiting: &mut [u8; 128],
     finishes: &mut [u32; 128],
 ) -> Moment
-    requires { ⌜ ((g : Graph) × GraphOf g kinds n (now cores) (now kind) (now edge) (now starts) × Timed g (now left)) ⌝ }
+    requires { ⌜ ((g : Graph) × GraphOf g kinds n (now cores) (now kind) (now edge) (now starts) × Timed g (now left) (now waiting)) ⌝ }
     requires { ⌜ now finishes ≡ replicate 128 0 ⌝ }
-    ensures { λ r. ⌜ ((g : Graph) → GraphOf g kinds n (now (cores .entry)) (now (kind .entry)) (now (edge .entry)) (now (starts .entry)) → Timed g (now (left .entry)) → Stopped g (place (now (left .entry))) d r (now (left .exit)) (now (finishes .exit))) ⌝ }
+    ensures { λ r. ⌜ ((g : Graph) → GraphOf g kinds n (now (cores .entry)) (now (kind .entry)) (now (edge .entry)) (now (starts .entry)) → Timed g (now (left .entry)) (now (waiting .entry)) → Stopped g (place (now (left .entry))) d r (now (left .exit)) (now (waiting .exit)) (now (finishes .exit))) ⌝ }
 {
     let words = choice::of_kinds(kind, n);
-    let outset = at_start(n, left, edge, starts);
-    let mut m = outset.moment;
-    let mut waiting = outset.waiting;
+    let mut m = at_start(left, waiting);
     while !vset::is_empty(m.busy) & (m.instant < d as u64) {
         let room = d - m.instant as u32;
         m = leap(
@@ -154,7 +141,7 @@ fn up_to<'a>(
             edge,
             starts,
             left,
-            &mut waiting,
+            waiting,
             finishes,
             room,
         );
@@ -163,52 +150,70 @@ fn up_to<'a>(
 }
 
 // The record at tick d, or at the finish where that comes before. Nothing is played past d.
-pub fn until(g: Graph, starts: &[u16; 129], run: Run, d: u32) -> Run
-    requires { ⌜ AcceptedGraph g ⌝ }
-    requires { ⌜ Fresh g run ⌝ }
-    requires { ⌜ now starts ≡ table (firstEdge g) 129 ⌝ }
-    ensures { λ r. ⌜ r ≡ untilOf g (leftOf run) d ⌝ }
+pub fn until(
+    kinds: usize,
+    n: usize,
+    cores: &[u8; 10],
+    kind: &[u8; 128],
+    edge: &[u16; 1024],
+    starts: &[u16; 129],
+    run: Run,
+    d: u32,
+) -> Run
+    requires { ⌜ ((g : Graph) × GraphOf g kinds n (now cores) (now kind) (now edge) (now starts) × Fresh g run) ⌝ }
+    ensures { λ r. ⌜ ((g : Graph) → GraphOf g kinds n (now (cores .entry)) (now (kind .entry)) (now (edge .entry)) (now (starts .entry)) → Fresh g run → r ≡ untilOf g (leftOf run) d) ⌝ }
 {
     let mut left = run.left;
+    let mut waiting = run.waiting;
     let mut finishes = [0u32; 128];
     let m = up_to(
-        g.kinds,
-        g.n,
-        &g.cores,
-        &g.kind,
-        &g.edge,
+        kinds,
+        n,
+        cores,
+        kind,
+        edge,
         starts,
         d,
         &mut left,
+        &mut waiting,
         &mut finishes,
     );
     let ran = m.ran;
     Run {
-        n: g.n,
+        n,
         instant: m.instant,
         left,
         ran,
+        waiting,
     }
 }
 
 // A whole run: no tick is as high as the highest number.
-pub fn play(g: Graph, starts: &[u16; 129], run: Run) -> Ended
-    requires { ⌜ AcceptedGraph g ⌝ }
-    requires { ⌜ Fresh g run ⌝ }
-    requires { ⌜ now starts ≡ table (firstEdge g) 129 ⌝ }
-    ensures { λ r. ⌜ r ≡ endOf g (leftOf run) ⌝ }
+pub fn play(
+    kinds: usize,
+    n: usize,
+    cores: &[u8; 10],
+    kind: &[u8; 128],
+    edge: &[u16; 1024],
+    starts: &[u16; 129],
+    run: Run,
+) -> Ended
+    requires { ⌜ ((g : Graph) × GraphOf g kinds n (now cores) (now kind) (now edge) (now starts) × Fresh g run) ⌝ }
+    ensures { λ r. ⌜ ((g : Graph) → GraphOf g kinds n (now (cores .entry)) (now (kind .entry)) (now (edge .entry)) (now (starts .entry)) → Fresh g run → r ≡ endOf g (leftOf run)) ⌝ }
 {
     let mut left = run.left;
+    let mut waiting = run.waiting;
     let mut finishes = [0u32; 128];
     let m = up_to(
-        g.kinds,
-        g.n,
-        &g.cores,
-        &g.kind,
-        &g.edge,
+        kinds,
+        n,
+        cores,
+        kind,
+        edge,
         starts,
         remains::TOP,
         &mut left,
+        &mut waiting,
         &mut finishes,
     );
     Ended {

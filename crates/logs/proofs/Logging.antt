@@ -62,7 +62,7 @@ module _ (g : Graph) (A : AcceptedGraph g) (l : List ℕ) (fit : Fitting g l) wh
   abbrev S : Schedule
   S = listSchedule G e
 
-  pub fresh-begun : Fresh g (recordOf (g .n) 0 (begin (timesOf l)))
+  pub fresh-begun : Fresh g (recordOf (asModel g) 0 (begin (timesOf l)))
   fresh-begun = fresh-start g A e (none-past g l fit) (fit .short)
 
   -- a run takes no more ticks than there are in all
@@ -72,7 +72,7 @@ module _ (g : Graph) (A : AcceptedGraph g) (l : List ℕ) (fit : Fitting g l) wh
 
   -- ---- the keys, in any order
 
-  module _ (run : Run) (r : Ended) (is-begun : run ≡ recordOf (g .n) 0 (begin (timesOf l))) (ends : r ≡ endOf g (leftOf run)) where
+  module _ (run : Run) (r : Ended) (is-begun : run ≡ recordOf (asModel g) 0 (begin (timesOf l))) (ends : r ≡ endOf g (leftOf run)) where
     abbrev F : ℕ → ℕ
     F = place (r .finishes)
 

@@ -5,28 +5,39 @@ ghost use lib.ListN.{length};
 ghost use Rattle.model.specs.Places.{table};
 ghost use Rattle.graph.specs.Model.{AcceptedGraph};
 ghost use Rattle.starts.specs.Starts.{firstEdge};
+ghost use Rattle.graph.specs.declared.Graph.{Graph};
+ghost use Rattle.reader.specs.Laid.{graphIn};
+ghost use Rattle.tick.specs.Lists.{GraphOf};
 ghost use Rattle.times.specs.Times.{Fitting};
 ghost use Rattle.writer.specs.Write.{roomBy};
 ghost use Rattle.logs.specs.Answers.{loggedIn, loggedOn, loggedOf, logFor, logRoom};
 use graph::Answer;
-use graph::Graph;
 use graph::Refusal;
+use reader::Header;
 use writer::Wrote;
 
 mod pairs; // pairs.rt: the keys of the records, two of each vertex that has a time
 mod lent; // lent.rt: the records, handed over to the caller's room
 
 // The times are judged already; what is left to say no to is the room.
-fn log_into(g: Graph, starts: &[u16; 129], times: &[u32], out: &mut [u8]) -> Wrote
-    requires { ⌜ AcceptedGraph g ⌝ }
-    requires { ⌜ Fitting g (now times) ⌝ }
-    requires { ⌜ now starts ≡ table (firstEdge g) 129 ⌝ }
-    ensures { λ r. ⌜ (r ≡ loggedIn g (now (times .entry)) (length (now (out .entry)))) × (now (out .exit) ≡ roomBy r (logFor g (now (times .entry))) (now (out .entry))) ⌝ }
+fn log_into(
+    kinds: usize,
+    n: usize,
+    cores: &[u8; 10],
+    kind: &[u8; 128],
+    edge: &[u16; 1024],
+    starts: &[u16; 129],
+    times: &[u32],
+    out: &mut [u8],
+) -> Wrote
+    requires { ⌜ ((g : Graph) × GraphOf g kinds n (now cores) (now kind) (now edge) (now starts) × Fitting g (now times)) ⌝ }
+    ensures { λ r. ⌜ ((g : Graph) → GraphOf g kinds n (now (cores .entry)) (now (kind .entry)) (now (edge .entry)) (now (starts .entry)) → Fitting g (now (times .entry)) → (r ≡ loggedIn g (now (times .entry)) (length (now (out .entry)))) × (now (out .exit) ≡ roomBy r (logFor g (now (times .entry))) (now (out .entry)))) ⌝ }
 {
-    let done = leaps::play(g, starts, times::begun(g.n, times));
+    let begun = times::begun(n, edge, starts, times);
+    let done = leaps::play(kinds, n, cores, kind, edge, starts, begun);
     let finishes = done.finishes;
     let mut keys = [0u64; 256];
-    let m = pairs::gather(times, g.n, &finishes, &mut keys);
+    let m = pairs::gather(times, n, &finishes, &mut keys);
     sorting::sort(&mut keys, m);
     let size = 8 * m;
     if out.len() < size {
@@ -39,15 +50,24 @@ fn log_into(g: Graph, starts: &[u16; 129], times: &[u32], out: &mut [u8]) -> Wro
     Wrote::Bytes(size)
 }
 
-fn log_on(g: Graph, starts: &[u16; 129], times: &[u32], out: &mut [u8]) -> Wrote
-    requires { ⌜ AcceptedGraph g ⌝ }
-    requires { ⌜ now starts ≡ table (firstEdge g) 129 ⌝ }
-    ensures { λ r. ⌜ (r ≡ loggedOn g (now (times .entry)) (length (now (out .entry)))) × (now (out .exit) ≡ roomBy r (logFor g (now (times .entry))) (now (out .entry))) ⌝ }
+fn log_on(
+    h: Header,
+    cores: &[u8; 10],
+    kind: &[u8; 128],
+    wcet: &[u32; 128],
+    edge: &[u16; 1024],
+    starts: &[u16; 129],
+    times: &[u32],
+    out: &mut [u8],
+) -> Wrote
+    requires { ⌜ AcceptedGraph (graphIn h (now cores) (now kind) (now wcet) (now edge)) ⌝ }
+    requires { ⌜ now starts ≡ table (firstEdge (graphIn h (now cores) (now kind) (now wcet) (now edge))) 129 ⌝ }
+    ensures { λ r. ⌜ (r ≡ loggedOn (graphIn h (now (cores .entry)) (now (kind .entry)) (now (wcet .entry)) (now (edge .entry))) (now (times .entry)) (length (now (out .entry)))) × (now (out .exit) ≡ roomBy r (logFor (graphIn h (now (cores .entry)) (now (kind .entry)) (now (wcet .entry)) (now (edge .entry))) (now (times .entry))) (now (out .entry))) ⌝ }
 {
-    let answer = times::judge(g, times);
+    let answer = times::judge(h.n, wcet, times);
     match answer {
         Answer::Refused(refusal) => Wrote::Refused(refusal),
-        Answer::Accepted => log_into(g, starts, times, out),
+        Answer::Accepted => log_into(h.kinds, h.n, cores, kind, edge, starts, times, out),
     }
 }
 
@@ -73,17 +93,6 @@ pub fn log(file: &[u8], times: &[u32], out: &mut [u8]) -> Wrote
     let answer = h.answer;
     match answer {
         Answer::Refused(refusal) => Wrote::Refused(refusal),
-        Answer::Accepted => {
-            let g = Graph {
-                kinds: h.kinds,
-                n: h.n,
-                edges: h.edges,
-                cores,
-                kind,
-                wcet,
-                edge,
-            };
-            log_on(g, &starts, times, out)
-        }
+        Answer::Accepted => log_on(h, &cores, &kind, &wcet, &edge, &starts, times, out),
     }
 }

@@ -9,6 +9,8 @@ use Rattle.print.proofs.given as given
 use Rattle.print.proofs.given.Reads as given-reads
 use Rattle.print.proofs.refused as refused
 use Rattle.print.proofs.refused.Reads as refused-reads
+use Rattle.print.proofs.bytes as bytes
+use Rattle.print.proofs.bytes.Reads as bytes-reads
 use Rattle.print.proofs.words as words
 use Rattle.print.proofs.words.Reads as words-reads
 use Rattle.print.proofs.lent_bytes as lent-bytes
@@ -31,6 +33,9 @@ given-one κs a r r′ ws ws′ pre p q = (refl, refl)
 
 pub refused-one : OneOutcome refused.ended refused-reads.Pre refused-reads.Post
 refused-one κs a r r′ ws ws′ pre p q = (refl, refl)
+
+pub bytes-one : OneOutcome bytes.ended bytes-reads.Pre bytes-reads.Post
+bytes-one κs a r r′ ws ws′ pre p q = (refl, refl)
 
 pub words-one : OneOutcome words.ended words-reads.Pre words-reads.Post
 words-one κs a r r′ ws ws′ pre p q = (refl, refl)

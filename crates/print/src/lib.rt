@@ -98,6 +98,11 @@ fn put_longs(list: &[u64], out: &mut [u8]) {
 }
 
 // The numbers of a list, each with a blank before it.
+pub fn bytes(list: &[u8]) {
+    let mut out = [0u8; 4096];
+    put_bytes(list, &mut out);
+}
+
 pub fn words(list: &[u32]) {
     let mut out = [0u8; 4096];
     put_words(list, &mut out);
@@ -105,9 +110,8 @@ pub fn words(list: &[u32]) {
 
 // ` :`, all the places that were lent, and the line's end.
 pub fn lent_bytes(lent: &[u8]) {
-    let mut out = [0u8; 4096];
     text(b" :");
-    put_bytes(lent, &mut out);
+    bytes(lent);
     text(b"\n");
 }
 

@@ -1,7 +1,6 @@
 // The letters S, T, I, X and D of the probe: a run started; one tick of a record, by value and in place; a whole run; whether a run ends by a
-// tick. Each takes a request's
-// payload and prints the line that answers it. A run record travels as 544 bytes: n (8), instant (8), 128 remainders (4 each), two words
-// (8 each).
+// tick. Each takes a request's payload and prints the line that answers it. A run record travels as 672 bytes: n (8), instant (8), 128
+// remainders (4 each), two words (8 each), 128 numbers of unfinished predecessors (a byte each).
 ghost use mathlib.Core.Path.{_≡_};
 ghost use Prim.Native.Nat.{_≤_};
 ghost use lib.ListN.{length};
@@ -13,8 +12,20 @@ use tick::Run;
 use vset::Vset;
 use wire::PRESET_WORD;
 
+fn numbers_of(r: &[u8]) -> [u8; 128]
+    requires { ⌜ length (now r) ≡ 672 ⌝ }
+{
+    let mut waiting = [0u8; 128];
+    let mut v = 0usize;
+    while v < 128 {
+        waiting[v] = r[544 + v];
+        v += 1;
+    }
+    waiting
+}
+
 fn record_of(r: &[u8]) -> Run
-    requires { ⌜ length (now r) ≡ 544 ⌝ }
+    requires { ⌜ length (now r) ≡ 672 ⌝ }
 {
     let n = wire::number(r, 0);
     let instant = wire::number(r, 8);
@@ -22,6 +33,7 @@ fn record_of(r: &[u8]) -> Run
     let high = wire::number(r, 536);
     let mut left = [0u32; 128];
     wire::words(&r[16..528], &mut left);
+    let waiting = numbers_of(r);
     Run {
         n: n.value as usize,
         instant: instant.value,
@@ -30,17 +42,20 @@ fn record_of(r: &[u8]) -> Run
             lo: low.value,
             hi: high.value,
         },
+        waiting,
     }
 }
 
 // ` : `, the record, and the line's end.
 fn record(run: Run) {
     let left = run.left;
+    let waiting = run.waiting;
     print::given(b" :", run.n as u64);
     print::field(run.instant);
     print::words(&left);
     print::field(run.ran.lo);
     print::field(run.ran.hi);
+    print::bytes(&waiting);
     print::text(b"\n")
 }
 
@@ -97,7 +112,7 @@ fn tick(run: Run, file: &[u8], in_place: bool) {
 }
 
 fn tick_with(file: &[u8], r: &[u8], in_place: bool) {
-    if r.len() != 544 {
+    if r.len() != 672 {
         return print::bad();
     }
     tick(record_of(r), file, in_place)

@@ -1,22 +1,20 @@
 -- For our own layers alone: no contract for callers and no claim cites this file.
 --
--- The remaining ticks as a list, place by place, and a state of the model some ticks later.
+-- The remaining ticks as a list, place by place.
 --
 --   place l v          what stands at v
 --   TOP                the highest number, for the fewest ticks left where there is nobody
 --   lowered l p d v    what is left of v after d ticks, where p says who runs
 --   LeastFrom f p x r  r is the least of x and the values of f at the places of p
 --   noMore l m v       what stands at v in l is at most what stands there in m
---   after p d s        the state d ticks later, where the vertices of p run in each
 use mathlib.Core.Path.{_≡_}
-use mathlib.Core.Bool.{Bool, true, _&&_}
+use mathlib.Core.Bool.{Bool, true}
 use mathlib.Core.List.{List}
 use mathlib.Core.Logic.{_⊎_}
 use Prim.Native.Nat.{ℕ, _-_, _≤_}
-use lib.Dec.{ltb, leb}
+use lib.Dec.{leb}
 use lib.ListN.{getD}
 use Rattle.model.specs.Places.{pick}
-use Rattle.model.specs.ListSchedule.{State}
 
 abbrev pub place : List ℕ → ℕ → ℕ
 place l v = getD l v 0
@@ -34,6 +32,3 @@ pub record LeastFrom (f : ℕ → ℕ) (p : ℕ → Bool) (x r : ℕ) : Type 0 w
 
 unfoldable pub noMore : List ℕ → List ℕ → ℕ → Bool
 noMore l m v = leb (getD l v 0) (getD m v 0)
-
-unfoldable pub after : (ℕ → Bool) → ℕ → State → State
-after p d s = record { rest = λ v. s .rest v - pick (p v) d 0; ran = λ v. p v && ltb 0 (s .rest v - pick (p v) d 0) }

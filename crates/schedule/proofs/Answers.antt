@@ -80,7 +80,7 @@ module _ (g : Graph) (l : List ℕ) where
 
   module _ (A : AcceptedGraph g) (fit : Fitting g l) where
     abbrev begun : Run
-    begun = recordOf (g .n) 0 (begin (timesOf l))
+    begun = recordOf (asModel g) 0 (begin (timesOf l))
 
     times-begun : leftOf begun ≡ timesOf l
     times-begun = left-start g A (timesOf l) (none-past g l fit)

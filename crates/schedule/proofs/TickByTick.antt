@@ -29,8 +29,9 @@ use Rattle.tick.specs.declared.Run.{Run}
 use Rattle.tick.specs.declared.Ticked.{Ticked}
 use Rattle.tick.specs.declared.Report.the-variants.{Moved, Done}
 use Rattle.tick.specs.Run.{leftOf, stateOf, recordOf, over, tickedOf}
-use Rattle.tick.specs.Suits.{suits, Suits}
-use Rattle.tick.proofs.Suiting.{suits-sound, suits-complete, passed, nothing-left}
+use Rattle.tick.specs.Suits.{suits, SuitsBefore}
+use Rattle.tick.proofs.Suiting.{suits-sound, suits-complete, nothing-past}
+use Rattle.tick.proofs.Records.{record-numbers}
 use Rattle.times.specs.Times.{timesOf, Fitting}
 use Rattle.times.proofs.Fits.{none-past}
 use Rattle.leaps.specs.Finishes.{finishOf}
@@ -50,30 +51,30 @@ module _ (g : Graph) (A : AcceptedGraph g) where
   -- ---- one tick of a record that suits
 
   module _ (r : Run) (long : length (r .left) ≡ 128) (ok : suits g r ≡ true) where
-    S : Suits g r
-    S = suits-sound g r A ok
+    S : SuitsBefore g r
+    S = suits-sound g r A ok .before
 
     past : (v : ℕ) → g .n ≤ v → leftOf r v ≡ 0
-    past = nothing-left g r (passed g r ok) long
+    past = nothing-past g r A ok long
 
     abbrev next : Run
-    next = recordOf (r .n) (r .instant + 1) (step G (stateOf r))
+    next = recordOf G (r .instant + 1) (step G (stateOf r))
 
     off : (v : ℕ) → g .n ≤ v → chosen G (stateOf r) v ≡ false
-    off = unchosen g A r (S .agrees) past
+    off = unchosen g A r past
 
     -- THEOREM. The record that a tick hands back stands for the next state.
     pub next-state : stateOf next ≡ step G (stateOf r)
-    next-state = moved-state g A r (S .agrees) past 1 next refl
+    next-state = moved-state g A r past 1 next refl
 
     next-left : (v : ℕ) → leftOf next v ≡ leftOf r v - pick (chosen G (stateOf r) v) 1 0
-    next-left = moved-left g A r (S .agrees) past 1 next refl
+    next-left = moved-left g A r past 1 next refl
 
     next-ran : (v : ℕ) → isIn (next .ran) v ≡ chosen G (stateOf r) v && ltb 0 (leftOf r v - pick (chosen G (stateOf r) v) 1 0)
-    next-ran = moved-ran g A r (S .agrees) past 1 next refl
+    next-ran = moved-ran g A r past 1 next refl
 
     less : (v : ℕ) → leftOf next v ≤ leftOf r v
-    less = less-left g A r (S .agrees) past 1 next refl
+    less = less-left g A r past 1 next refl
 
     some-tick : (u : ℕ) → chosen G (stateOf r) u ≡ true → 0 < leftOf r u
     unfolding asModel stateOf
@@ -92,7 +93,7 @@ module _ (g : Graph) (A : AcceptedGraph g) where
         go (inl a) = absurd (clash (every-intro (finished G (leftOf r)) (g .n) (λ v l. finished-tells (A .well-formed) (leftOf r) (A .acyclic) .complete v l (a v l))) o)
         go (inr x) =
             let u = some-chosen (A .well-formed) (A .acyclic) (stateOf r) (S .few-marked) (x .0) (x .1) (x .2) in
-            spend g A r (S .agrees) past 1 next refl (u .0) (u .1) (u .2) (some-tick (u .0) (u .2))
+            spend g A r past 1 next refl (u .0) (u .1) (u .2) (some-tick (u .0) (u .2))
 
     still-ready : (v : ℕ) → v < g .n → isIn (next .ran) v ≡ true → Ready G (leftOf next) v
     unfolding asModel stateOf
@@ -104,15 +105,18 @@ module _ (g : Graph) (A : AcceptedGraph g) where
 
     -- THEOREM. And it suits the graph again.
     pub next-suits : over g r ≡ false → suits g next ≡ true
-    unfolding recordOf
+    unfolding recordOf asModel
     next-suits o = suits-complete g next A (record {
-      agrees = S .agrees;
-      no-more = λ v l. omega (arith, less v, S .no-more v l);
-      in-time = omega (arith, spent o, S .in-time);
-      marked-ready = still-ready;
-      few-marked = subst (Fair G) (sym next-state) (fair-leap G (stateOf r) (S .few-marked) 1);
-      zero-past = λ v l h. omega (arith, less v, past v l);
-      unmarked-past = λ v l h. next-ran v ∙ ap (λ (b : Bool). b && ltb 0 (leftOf r v - pick (chosen G (stateOf r) v) 1 0)) (off v l);
+      before = record {
+        agrees = refl;
+        no-more = λ v l. omega (arith, less v, S .no-more v l);
+        in-time = omega (arith, spent o, S .in-time);
+        marked-ready = still-ready;
+        few-marked = subst (Fair G) (sym next-state) (fair-leap G (stateOf r) (S .few-marked) 1);
+        zero-past = λ v l h. omega (arith, less v, past v l);
+        unmarked-past = λ v l h. next-ran v ∙ ap (λ (b : Bool). b && ltb 0 (leftOf r v - pick (chosen G (stateOf r) v) 1 0)) (off v l);
+      };
+      numbers = record-numbers g A (r .instant + 1) (step G (stateOf r)) next-state;
     })
 
   -- ---- from the start on
@@ -131,7 +135,7 @@ module _ (g : Graph) (A : AcceptedGraph g) where
     state-at = instants.state-at g A e e-past
 
     long-at : (t : ℕ) → length (at t .left) ≡ 128
-    unfolding recordOf
+    unfolding recordOf asModel
     long-at t = padded-length 128 (steps G t (begin e) .rest) (g .n) (A .few-vertices)
 
     left-at : (t : ℕ) → leftOf (at t) ≡ steps G t (begin e) .rest
@@ -144,18 +148,21 @@ module _ (g : Graph) (A : AcceptedGraph g) where
     pub start-suits : suits g (at 0) ≡ true
     unfolding recordOf steps stateOf leftOf asModel
     start-suits = suits-complete g (at 0) A (record {
-      agrees = refl;
-      no-more = λ v h. omega (arith, ap (λ (c : ℕ → ℕ). c v) (left-at 0), fit .short v h);
-      in-time = omega (arith, A .few-vertices, sum-most (leftOf (at 0)) 1000000 (g .n) (λ v h. omega (arith, ap (λ (c : ℕ → ℕ). c v) (left-at 0), fit .short v h, A .short v h)));
-      marked-ready = λ v h t. absurd (clash t (ap (λ (x : State). x .ran v) (state-at 0)));
-      few-marked = subst (Fair G) (sym (state-at 0)) (fair-begin G e);
-      zero-past = λ v h k. ap (λ (c : ℕ → ℕ). c v) (left-at 0) ∙ e-past v h;
-      unmarked-past = λ v h k. ap (λ (x : State). x .ran v) (state-at 0);
+      before = record {
+        agrees = refl;
+        no-more = λ v h. omega (arith, ap (λ (c : ℕ → ℕ). c v) (left-at 0), fit .short v h);
+        in-time = omega (arith, A .few-vertices, sum-most (leftOf (at 0)) 1000000 (g .n) (λ v h. omega (arith, ap (λ (c : ℕ → ℕ). c v) (left-at 0), fit .short v h, A .short v h)));
+        marked-ready = λ v h t. absurd (clash t (ap (λ (x : State). x .ran v) (state-at 0)));
+        few-marked = subst (Fair G) (sym (state-at 0)) (fair-begin G e);
+        zero-past = λ v h k. ap (λ (c : ℕ → ℕ). c v) (left-at 0) ∙ e-past v h;
+        unmarked-past = λ v h k. ap (λ (x : State). x .ran v) (state-at 0);
+      };
+      numbers = record-numbers g A 0 (steps G 0 (begin e)) (state-at 0);
     })
 
-    next-at : (t : ℕ) → recordOf (g .n) (t + 1) (step G (stateOf (at t))) ≡ at (suc t)
+    next-at : (t : ℕ) → recordOf G (t + 1) (step G (stateOf (at t))) ≡ at (suc t)
     unfolding steps
-    next-at t = ap₂ {C = Run} (λ (x : ℕ) (s : State). recordOf (g .n) x (step G s)) (add-one t) (state-at t)
+    next-at t = ap₂ {C = Run} (λ (x : ℕ) (s : State). recordOf G x (step G s)) (add-one t) (state-at t)
 
     -- a tick before the finish moves, to the record of the next instant; one at the finish is done
     pub tick-moves : (t : ℕ) → t < finishOf G e → tickedOf g (at t) ≡ record { report = Moved; run = at (suc t) }
@@ -166,7 +173,7 @@ module _ (g : Graph) (A : AcceptedGraph g) where
     unfolding tickedOf
     tick-done = rw (instants.over-at g A e e-past (finishOf G e) (omega arith) ∙ le-leb (finishOf G e) (finishOf G e) (omega arith)) refl
 
-    suits-next : (t : ℕ) → suits g (at t) ≡ true → t < finishOf G e → suits g (recordOf (g .n) (t + 1) (step G (stateOf (at t)))) ≡ true
+    suits-next : (t : ℕ) → suits g (at t) ≡ true → t < finishOf G e → suits g (recordOf G (t + 1) (step G (stateOf (at t)))) ≡ true
     unfolding recordOf
     suits-next t ok h = next-suits (at t) (long-at t) ok (unfinished-at t h)
 

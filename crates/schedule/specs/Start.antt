@@ -8,6 +8,7 @@ use Prim.Native.Nat.{ℕ}
 use lib.ListN.{replicate}
 use Rattle.model.specs.ListSchedule.{begin}
 use Rattle.graph.specs.Judge.{readOf}
+use Rattle.graph.specs.Model.{asModel}
 use Rattle.graph.specs.declared.Graph.{Graph}
 use Rattle.graph.specs.declared.Refusal.{Refusal}
 use Rattle.graph.specs.declared.Answer.{Answer}
@@ -18,13 +19,13 @@ use Rattle.times.specs.Times.{timesOf, judgeTimes}
 use Rattle.schedule.specs.declared.Started.{Started}
 
 unfoldable pub noRun : Run
-noRun = record { n = 0; instant = 0; left = replicate 128 0; ran = record { lo = 0; hi = 0 } }
+noRun = record { n = 0; instant = 0; left = replicate 128 0; ran = record { lo = 0; hi = 0 }; waiting = replicate 128 0 }
 
 abbrev pub refusedStart : Refusal → Started
 refusedStart r = record { answer = Refused r; run = noRun }
 
 abbrev pub startBeside : Answer → Graph → List ℕ → Started
-startBeside Accepted g e = record { answer = Accepted; run = recordOf (g .n) 0 (begin (timesOf e)) }
+startBeside Accepted g e = record { answer = Accepted; run = recordOf (asModel g) 0 (begin (timesOf e)) }
 startBeside (Refused r) g e = refusedStart r
 
 unfoldable pub startedOn : Graph → List ℕ → Started

@@ -1,18 +1,20 @@
 // The list schedule for callers: a run started, moved on by one tick, or run whole. Every entry takes the graph as its file's bytes
 // and says no with 1 to 11 as the reader does, before any other number.
 ghost use mathlib.Core.Path.{_≡_};
-ghost use Prim.Native.Nat.{_≤_};
 ghost use lib.ListN.{length};
+ghost use Rattle.graph.specs.declared.Graph.{Graph};
 ghost use Rattle.graph.specs.Model.{AcceptedGraph};
 ghost use Rattle.model.specs.Places.{table};
 ghost use Rattle.starts.specs.Starts.{firstEdge};
+ghost use Rattle.reader.specs.Laid.{graphIn};
+ghost use Rattle.tick.specs.Lists.{EdgesOf, GraphOf};
 ghost use Rattle.times.specs.Times.{Fitting};
 ghost use Rattle.schedule.specs.Start.{noRun, refusedStart, startedOn, startOf};
 ghost use Rattle.schedule.specs.Tick.{tickOn, tickOf};
 ghost use Rattle.schedule.specs.Whole.{playIn, playOn, playOf, filledBeside, finishesOf};
 use graph::Answer;
-use graph::Graph;
 use graph::Refusal;
+use reader::Header;
 use tick::Report;
 use tick::Run;
 use tick::Ticked;
@@ -35,11 +37,13 @@ fn no_run() -> Run
     ensures { λ r. ⌜ r ≡ noRun ⌝ }
 {
     let left = [0u32; 128];
+    let waiting = [0u8; 128];
     Run {
         n: 0,
         instant: 0,
         left,
         ran: Vset { lo: 0, hi: 0 },
+        waiting,
     }
 }
 
@@ -53,15 +57,21 @@ fn refused_start(refusal: Refusal) -> Started
     }
 }
 
-fn start_on(g: Graph, times: &[u32]) -> Started
-    requires { ⌜ g .n ≤ 128 ⌝ }
-    ensures { λ r. ⌜ r ≡ startedOn g (now (times .entry)) ⌝ }
+fn start_on(
+    n: usize,
+    wcet: &[u32; 128],
+    edge: &[u16; 1024],
+    starts: &[u16; 129],
+    times: &[u32],
+) -> Started
+    requires { ⌜ ((g : Graph) × EdgesOf g n (now edge) (now starts) × (now wcet ≡ g .wcet)) ⌝ }
+    ensures { λ r. ⌜ ((g : Graph) → EdgesOf g n (now (edge .entry)) (now (starts .entry)) → now (wcet .entry) ≡ g .wcet → r ≡ startedOn g (now (times .entry))) ⌝ }
 {
-    let answer = times::judge(g, times);
+    let answer = times::judge(n, wcet, times);
     match answer {
         Answer::Refused(refusal) => refused_start(refusal),
         Answer::Accepted => {
-            let run = times::begun(g.n, times);
+            let run = times::begun(n, edge, starts, times);
             Started {
                 answer: Answer::Accepted,
                 run,
@@ -73,24 +83,45 @@ fn start_on(g: Graph, times: &[u32]) -> Started
 pub fn start(file: &[u8], times: &[u32]) -> Started
     ensures { λ r. ⌜ r ≡ startOf (now (file .entry)) (now (times .entry)) ⌝ }
 {
-    let taken = reader::read(file);
-    let answer = taken.answer;
+    let mut cores = [0u8; 10];
+    let mut kind = [0u8; 128];
+    let mut wcet = [0u32; 128];
+    let mut edge = [0u16; 1024];
+    let mut starts = [0u16; 129];
+    let mut order = [0u8; 128];
+    let h = reader::take(
+        file,
+        &mut cores,
+        &mut kind,
+        &mut wcet,
+        &mut edge,
+        &mut starts,
+        &mut order,
+    );
+    let answer = h.answer;
     match answer {
         Answer::Refused(refusal) => refused_start(refusal),
-        Answer::Accepted => {
-            let g = taken.graph;
-            start_on(g, times)
-        }
+        Answer::Accepted => start_on(h.n, &wcet, &edge, &starts, times),
     }
 }
 
 // A record that does not suit the graph says no with 16. A refused tick hands back the record it was given.
-fn tick_on(g: Graph, run: Run) -> Ticked
-    requires { ⌜ AcceptedGraph g ⌝ }
-    ensures { λ r. ⌜ r ≡ tickOn g run ⌝ }
+fn tick_on(
+    h: Header,
+    cores: &[u8; 10],
+    kind: &[u8; 128],
+    wcet: &[u32; 128],
+    edge: &[u16; 1024],
+    starts: &[u16; 129],
+    run: Run,
+) -> Ticked
+    requires { ⌜ AcceptedGraph (graphIn h (now cores) (now kind) (now wcet) (now edge)) ⌝ }
+    requires { ⌜ now starts ≡ table (firstEdge (graphIn h (now cores) (now kind) (now wcet) (now edge))) 129 ⌝ }
+    ensures { λ r. ⌜ r ≡ tickOn (graphIn h (now (cores .entry)) (now (kind .entry)) (now (wcet .entry)) (now (edge .entry))) run ⌝ }
 {
-    if tick::suits(g, run) {
-        run.tick(g)
+    let words = choice::of_kinds(kind, h.n);
+    if tick::suits(h.kinds, h.n, h.edges, cores, &words, wcet, edge, run) {
+        run.tick(h.kinds, cores, &words, edge, starts)
     } else {
         Ticked {
             report: Report::Refused(Refusal {
@@ -105,48 +136,76 @@ fn tick_on(g: Graph, run: Run) -> Ticked
 pub fn tick(run: Run, file: &[u8]) -> Ticked
     ensures { λ r. ⌜ r ≡ tickOf (now (file .entry)) run ⌝ }
 {
-    let taken = reader::read(file);
-    let answer = taken.answer;
+    let mut cores = [0u8; 10];
+    let mut kind = [0u8; 128];
+    let mut wcet = [0u32; 128];
+    let mut edge = [0u16; 1024];
+    let mut starts = [0u16; 129];
+    let mut order = [0u8; 128];
+    let h = reader::take(
+        file,
+        &mut cores,
+        &mut kind,
+        &mut wcet,
+        &mut edge,
+        &mut starts,
+        &mut order,
+    );
+    let answer = h.answer;
     match answer {
         Answer::Refused(refusal) => Ticked {
             report: Report::Refused(refusal),
             run,
         },
-        Answer::Accepted => {
-            let g = taken.graph;
-            tick_on(g, run)
-        }
+        Answer::Accepted => tick_on(h, &cores, &kind, &wcet, &edge, &starts, run),
     }
 }
 
 // The times are judged already; what is left to say no to is the room.
-fn play_into(g: Graph, starts: &[u16; 129], times: &[u32], finishes: &mut [u32]) -> Played
-    requires { ⌜ AcceptedGraph g ⌝ }
-    requires { ⌜ Fitting g (now times) ⌝ }
-    requires { ⌜ now starts ≡ table (firstEdge g) 129 ⌝ }
-    ensures { λ r. ⌜ (r ≡ playIn g (now (times .entry)) (length (now (finishes .entry)))) × (now (finishes .exit) ≡ filledBeside r g (now (times .entry)) (now (finishes .entry))) ⌝ }
+fn play_into(
+    kinds: usize,
+    n: usize,
+    cores: &[u8; 10],
+    kind: &[u8; 128],
+    edge: &[u16; 1024],
+    starts: &[u16; 129],
+    times: &[u32],
+    finishes: &mut [u32],
+) -> Played
+    requires { ⌜ ((g : Graph) × GraphOf g kinds n (now cores) (now kind) (now edge) (now starts) × Fitting g (now times)) ⌝ }
+    ensures { λ r. ⌜ ((g : Graph) → GraphOf g kinds n (now (cores .entry)) (now (kind .entry)) (now (edge .entry)) (now (starts .entry)) → Fitting g (now (times .entry)) → (r ≡ playIn g (now (times .entry)) (length (now (finishes .entry)))) × (now (finishes .exit) ≡ filledBeside r g (now (times .entry)) (now (finishes .entry)))) ⌝ }
 {
-    if finishes.len() < g.n {
+    if finishes.len() < n {
         return Played::Refused(Refusal {
             number: 15,
             place: 0,
         });
     }
-    let done = leaps::play(g, starts, times::begun(g.n, times));
+    let begun = times::begun(n, edge, starts, times);
+    let done = leaps::play(kinds, n, cores, kind, edge, starts, begun);
     let table = done.finishes;
-    lent::hand_over(table, g.n, finishes);
+    lent::hand_over(table, n, finishes);
     Played::Finish(Ticks(done.instant))
 }
 
-fn play_on(g: Graph, starts: &[u16; 129], times: &[u32], finishes: &mut [u32]) -> Played
-    requires { ⌜ AcceptedGraph g ⌝ }
-    requires { ⌜ now starts ≡ table (firstEdge g) 129 ⌝ }
-    ensures { λ r. ⌜ (r ≡ playOn g (now (times .entry)) (length (now (finishes .entry)))) × (now (finishes .exit) ≡ filledBeside r g (now (times .entry)) (now (finishes .entry))) ⌝ }
+fn play_on(
+    h: Header,
+    cores: &[u8; 10],
+    kind: &[u8; 128],
+    wcet: &[u32; 128],
+    edge: &[u16; 1024],
+    starts: &[u16; 129],
+    times: &[u32],
+    finishes: &mut [u32],
+) -> Played
+    requires { ⌜ AcceptedGraph (graphIn h (now cores) (now kind) (now wcet) (now edge)) ⌝ }
+    requires { ⌜ now starts ≡ table (firstEdge (graphIn h (now cores) (now kind) (now wcet) (now edge))) 129 ⌝ }
+    ensures { λ r. ⌜ (r ≡ playOn (graphIn h (now (cores .entry)) (now (kind .entry)) (now (wcet .entry)) (now (edge .entry))) (now (times .entry)) (length (now (finishes .entry)))) × (now (finishes .exit) ≡ filledBeside r (graphIn h (now (cores .entry)) (now (kind .entry)) (now (wcet .entry)) (now (edge .entry))) (now (times .entry)) (now (finishes .entry))) ⌝ }
 {
-    let answer = times::judge(g, times);
+    let answer = times::judge(h.n, wcet, times);
     match answer {
         Answer::Refused(refusal) => Played::Refused(refusal),
-        Answer::Accepted => play_into(g, starts, times, finishes),
+        Answer::Accepted => play_into(h.kinds, h.n, cores, kind, edge, starts, times, finishes),
     }
 }
 
@@ -172,18 +231,7 @@ pub fn run(file: &[u8], times: &[u32], finishes: &mut [u32]) -> Played
     let answer = h.answer;
     match answer {
         Answer::Refused(refusal) => Played::Refused(refusal),
-        Answer::Accepted => {
-            let g = Graph {
-                kinds: h.kinds,
-                n: h.n,
-                edges: h.edges,
-                cores,
-                kind,
-                wcet,
-                edge,
-            };
-            play_on(g, &starts, times, finishes)
-        }
+        Answer::Accepted => play_on(h, &cores, &kind, &wcet, &edge, &starts, times, finishes),
     }
 }
 

@@ -17,14 +17,14 @@ use Rattle.tick.specs.declared.Run.{Run}
 use Rattle.tick.specs.Run.{leftOf, stateOf, recordOf}
 use Rattle.tick.proofs.Records.{state-record}
 
-module _ (g : Graph) (A : AcceptedGraph g) (r : Run) (agrees : r .n ≡ g .n) (past : (v : ℕ) → g .n ≤ v → leftOf r v ≡ 0) where
+module _ (g : Graph) (A : AcceptedGraph g) (r : Run) (past : (v : ℕ) → g .n ≤ v → leftOf r v ≡ 0) where
   -- a place from N on is not chosen
   pub unchosen : (v : ℕ) → g .n ≤ v → chosen (asModel g) (stateOf r) v ≡ false
   unfolding stateOf asModel
   unchosen v l =
       not-true (chosen (asModel g) (stateOf r) v) (λ t. clash (chosen-ready (asModel g) (stateOf r) v t) (ready-past (A .well-formed) (leftOf r) v l (past v l)))
 
-  module _ (d : ℕ) (next : Run) (moved : next ≡ recordOf (r .n) (r .instant + d) (leap (asModel g) d (stateOf r))) where
+  module _ (d : ℕ) (next : Run) (moved : next ≡ recordOf (asModel g) (r .instant + d) (leap (asModel g) d (stateOf r))) where
     rest-past : (v : ℕ) → g .n ≤ v → leap (asModel g) d (stateOf r) .rest v ≡ 0
     unfolding leap stateOf
     rest-past v l = omega (arith, past v l)
@@ -35,10 +35,8 @@ module _ (g : Graph) (A : AcceptedGraph g) (r : Run) (agrees : r .n ≡ g .n) (p
 
     -- the record moved on stands for the state moved on
     pub moved-state : stateOf next ≡ leap (asModel g) d (stateOf r)
-    moved-state =
-        ap stateOf moved
-        ∙ state-record (r .n) (r .instant + d) (leap (asModel g) d (stateOf r)) (rw agrees (A .few-vertices))
-        (λ v l. rest-past v (rw (← agrees) l)) (λ v l. ran-past v (rw (← agrees) l))
+    unfolding asModel
+    moved-state = ap stateOf moved ∙ state-record (asModel g) (r .instant + d) (leap (asModel g) d (stateOf r)) (A .few-vertices) rest-past ran-past
 
     pub moved-left : (v : ℕ) → leftOf next v ≡ leftOf r v - pick (chosen (asModel g) (stateOf r) v) d 0
     unfolding stateOf leap

@@ -1,7 +1,7 @@
--- The test `suits` tells document 01's sentence, and is what the code tests.
-use mathlib.Core.Path.{_≡_, sym, ap, _∙_}
+-- The test `suits` tells document 01's sentences and order 8's, and is what the code tests.
+use mathlib.Core.Path.{_≡_, refl, sym, ap, _∙_, fun-ext}
 use mathlib.Core.Logic.{_⊎_, inl, inr, ⊎-elim}
-use mathlib.Core.Bool.{Bool, true, false, not, _&&_, _||_}
+use mathlib.Core.Bool.{Bool, true, false, not, _&&_, _||_, and-false}
 use Prim.Native.Nat.{ℕ, _+_, _≤_, _<_, zero-le}
 use native.Mathlib.Omega.{arith}
 use lib.Dec.{eqb, ltb, leb}
@@ -14,13 +14,18 @@ use Rattle.model.proofs.Places.{every-at, every-intro, any-none, any-false}
 use Rattle.model.proofs.Tests.{ready-tells}
 use Rattle.graph.specs.declared.Graph.{Graph}
 use Rattle.graph.specs.Model.{asModel, AcceptedGraph}
-use Rattle.vset.specs.Members.{isIn}
+use Rattle.vset.specs.declared.Vset.{Vset}
+use Rattle.vset.specs.Members.{isIn, Members}
 use Rattle.tick.specs.declared.Run.{Run}
-use Rattle.tick.specs.Run.{MOST, leftOf, stateOf}
+use Rattle.tick.specs.Run.{MOST, leftOf, waitingOf, stateOf, awaited}
 use Rattle.ready.specs.Ready.{someLeft, isBehind}
 use Rattle.remains.specs.Remains.{noMore}
-use Rattle.tick.specs.Suits.{suits, Suits}
+use Rattle.tick.specs.Suits.{SuitsBefore, NumbersRight, Suits, suitsBefore, numbersRight, suits}
 use Rattle.ready.proofs.Standing.{ready-is}
+use Rattle.ready.proofs.ByNumbers.{settled-behind, agreed, agrees}
+use Rattle.waiting.specs.Waiting.{Settled, selfCounted}
+use Rattle.tick.proofs.Awaited.{settled-awaited, awaited-settled}
+use Rattle.tick.proofs.Records.{numbers-listed, listed-numbers}
 
 module _ (g : Graph) (r : Run) where
   abbrev within : Bool
@@ -50,8 +55,8 @@ module _ (g : Graph) (r : Run) where
     pub fair : few ≡ true
     pub past : unused ≡ true
 
-  pub passed : suits g r ≡ true → Passed
-  unfolding suits
+  pub passed : suitsBefore g r ≡ true → Passed
+  unfolding suitsBefore
   passed t =
       let a = right-of (eqb (r .n) (g .n)) (within && (timely && (marked && (few && unused)))) t in
       let b = right-of within (timely && (marked && (few && unused))) a in
@@ -66,8 +71,8 @@ module _ (g : Graph) (r : Run) where
         past = right-of few unused d;
       }
 
-  pub all-passed : Passed → suits g r ≡ true
-  unfolding suits
+  pub all-passed : Passed → suitsBefore g r ≡ true
+  unfolding suitsBefore
   all-passed p =
       both (eqb (r .n) (g .n)) (within && (timely && (marked && (few && unused)))) (p .agrees)
       (both within (timely && (marked && (few && unused))) (p .no-more)
@@ -92,10 +97,10 @@ module _ (g : Graph) (r : Run) where
       ⊎-elim (λ (h : 128 ≤ v). List·getD-eq-default (r .left) 0 (omega arith)) (λ (h : v < 128). zero-from p v l h .0) (le-or-lt 128 v)
 
   module _ (A : AcceptedGraph g) where
-    -- THEOREM. The test tells the sentence.
-    pub suits-sound : suits g r ≡ true → Suits g r
+    -- THEOREM. The test of before tells document 01's sentences.
+    pub before-sound : suitsBefore g r ≡ true → SuitsBefore g r
     unfolding asModel stateOf
-    suits-sound t =
+    before-sound t =
         let p = passed t in
         record {
           agrees = eqb-true (r .n) (g .n) (p .agrees);
@@ -108,10 +113,10 @@ module _ (g : Graph) (r : Run) where
           unmarked-past = λ v l h. zero-from p v l h .1;
         }
 
-    -- THEOREM. And it tells all of it.
-    pub suits-complete : Suits g r → suits g r ≡ true
+    -- THEOREM. And it tells all of them.
+    pub before-complete : SuitsBefore g r → suitsBefore g r ≡ true
     unfolding asModel stateOf
-    suits-complete s = all-passed (record {
+    before-complete s = all-passed (record {
       agrees = eq-eqb (r .n) (g .n) (s .agrees);
       no-more = every-intro (λ v. leb (leftOf r v) (getD (g .wcet) v 0)) (g .n) (λ v l. le-leb (leftOf r v) (getD (g .wcet) v 0) (s .no-more v l));
       in-time = le-leb (r .instant + sum (leftOf r) (g .n)) MOST (s .in-time);
@@ -126,7 +131,68 @@ module _ (g : Graph) (r : Run) where
           (le-or-lt (g .n) v));
     })
 
+    -- ---- the stored numbers
+
+    abbrev right-number : ℕ → Bool
+    right-number v = eqb (waitingOf r v) (awaited (asModel g) (leftOf r) v)
+
+    abbrev none-number : ℕ → Bool
+    none-number v = ltb v (g .n) || eqb (waitingOf r v) 0
+
+    -- THEOREM. The other test tells order 8's sentence, all of it.
+    pub numbers-sound : numbersRight g r ≡ true → NumbersRight g r
+    unfolding numbersRight
+    numbers-sound t = record {
+      counted = λ v l. eqb-true (waitingOf r v) (awaited (asModel g) (leftOf r) v) (every-at right-number (g .n) (left-of (every right-number (g .n)) (every none-number 128) t) v l);
+      none-past = λ v l h. out v l (or-cases (ltb v (g .n)) (eqb (waitingOf r v) 0) (every-at none-number 128 (right-of (every right-number (g .n)) (every none-number 128) t) v h));
+    }
+      where
+        out : (v : ℕ) → g .n ≤ v → (ltb v (g .n) ≡ true) ⊎ (eqb (waitingOf r v) 0 ≡ true) → waitingOf r v ≡ 0
+        out v l (inl x) = absurd (clash x (le-ltb v (g .n) l))
+        out v l (inr x) = eqb-true (waitingOf r v) 0 x
+
+    pub numbers-complete : NumbersRight g r → numbersRight g r ≡ true
+    unfolding numbersRight
+    numbers-complete N =
+        both (every right-number (g .n)) (every none-number 128) (every-intro right-number (g .n) (λ v l. eq-eqb (waitingOf r v) (awaited (asModel g) (leftOf r) v) (N .counted v l)))
+        (every-intro none-number 128 (λ v h.
+        ⊎-elim (λ (l : g .n ≤ v). or-right (ltb v (g .n)) (eqb (waitingOf r v) 0) (eq-eqb (waitingOf r v) 0 (N .none-past v l h)))
+        (λ (l : v < g .n). or-left (ltb v (g .n)) (eqb (waitingOf r v) 0) (lt-ltb v (g .n) l)) (le-or-lt (g .n) v)))
+
+    -- THEOREM. Both together tell both.
+    pub suits-sound : suits g r ≡ true → Suits g r
+    unfolding suits
+    suits-sound t = record { before = before-sound (left-of (suitsBefore g r) (numbersRight g r) t); numbers = numbers-sound (right-of (suitsBefore g r) (numbersRight g r) t) }
+
+    pub suits-complete : Suits g r → suits g r ≡ true
+    unfolding suits
+    suits-complete s = both (suitsBefore g r) (numbersRight g r) (before-complete (s .before)) (numbers-complete (s .numbers))
+
+    -- a record that suits has nothing left from N on
+    pub nothing-past : suits g r ≡ true → length (r .left) ≡ 128 → (v : ℕ) → g .n ≤ v → leftOf r v ≡ 0
+    unfolding suits
+    nothing-past t = nothing-left (passed (left-of (suitsBefore g r) (numbersRight g r) t))
+
     -- ---- the tests of the code
+
+    -- THEOREM. Numbers that agree with themselves are right, and no others do.
+    module _ (busy : ℕ → Bool) (is-busy : (v : ℕ) → busy v ≡ someLeft (r .left) v) (behind : Vset) (is-behind : Members behind (λ v. ltb 0 (getD (r .waiting) v 0))) (long : length (r .waiting) ≡ 128) where
+      settles : numbersRight g r ≡ true → Settled (g .edge) (g .edges) (r .waiting) busy behind
+      unfolding someLeft leftOf
+      settles t = awaited-settled g A (leftOf r) busy is-busy (r .waiting) behind (numbers-listed g A r long (numbers-sound t)) is-behind
+
+      pub suits-settled : suits g r ≡ true → Settled (g .edge) (g .edges) (r .waiting) busy behind
+      unfolding suits
+      suits-settled t = settles (right-of (suitsBefore g r) (numbersRight g r) t)
+
+      pub numbers-tested : selfCounted (g .edge) (g .edges) (r .waiting) busy (isIn behind) ≡ numbersRight g r
+      unfolding someLeft leftOf
+      numbers-tested = same-test (selfCounted (g .edge) (g .edges) (r .waiting) busy (isIn behind)) (numbersRight g r)
+          (λ t. numbers-complete (listed-numbers g A r (settled-awaited g A (leftOf r) busy is-busy (r .waiting) behind (agreed g A (r .waiting) busy behind long is-behind t))))
+          (λ t. agrees g A (r .waiting) busy behind (settles t))
+
+      pub standing : numbersRight g r ≡ true → (v : ℕ) → isIn behind v ≡ isBehind (asModel g) (someLeft (r .left)) v
+      standing t v = settled-behind g A (r .waiting) busy behind (settles t) v ∙ ap (λ (p : ℕ → Bool). isBehind (asModel g) p v) (fun-ext is-busy)
 
     -- able: ready by the code's sets
     module _ (able : ℕ → Bool) (is-able : (v : ℕ) → able v ≡ someLeft (r .left) v && not (isBehind (asModel g) (someLeft (r .left)) v)) where
@@ -144,7 +210,7 @@ module _ (g : Graph) (r : Run) where
       abbrev tested : Bool
       tested = eqb (r .n) (g .n) && (every (noMore (r .left) (g .wcet)) 128 && (timely && (not (any new 128) && few)))
 
-      to : suits g r ≡ true → tested ≡ true
+      to : suitsBefore g r ≡ true → tested ≡ true
       unfolding noMore leftOf
       to t =
           let p = passed t in
@@ -170,7 +236,7 @@ module _ (g : Graph) (r : Run) where
               (not-is-true (able v) (right-of (isIn (r .ran) v) (not (able v)) x)))
               (le-or-lt (g .n) v))
 
-      from : tested ≡ true → suits g r ≡ true
+      from : tested ≡ true → suitsBefore g r ≡ true
       unfolding noMore leftOf
       from t =
           let a = right-of (eqb (r .n) (g .n)) (every (noMore (r .left) (g .wcet)) 128 && (timely && (not (any new 128) && few))) t in
@@ -203,5 +269,19 @@ module _ (g : Graph) (r : Run) where
               (λ (l : v < g .n). or-left (ltb v (g .n)) (eqb (getD (r .left) v 0) 0 && not (isIn (r .ran) v)) (lt-ltb v (g .n) l))
               (le-or-lt (g .n) v)
 
-      pub tested-is : tested ≡ suits g r
-      tested-is = same-test tested (suits g r) from to
+      tested-is : tested ≡ suitsBefore g r
+      tested-is = same-test tested (suitsBefore g r) from to
+
+    -- THEOREM. All tests of the code together: where the numbers are right they tell who is able, and where they are not the others do not matter.
+    module _ (able : ℕ → Bool) (numbers : Bool) (is-right : numbers ≡ numbersRight g r)
+        (is-able : numbersRight g r ≡ true → (v : ℕ) → able v ≡ someLeft (r .left) v && not (isBehind (asModel g) (someLeft (r .left)) v)) where
+      abbrev others : Bool
+      others = eqb (r .n) (g .n) && (every (noMore (r .left) (g .wcet)) 128 && (timely && (not (any (λ v. isIn (r .ran) v && not (able v)) 128) && few)))
+
+      pub all-tested : others && numbers ≡ suits g r
+      unfolding suits
+      all-tested = ap (λ (b : Bool). others && b) is-right ∙ go (numbersRight g r) refl
+        where
+          go : (b : Bool) → numbersRight g r ≡ b → others && b ≡ suitsBefore g r && b
+          go true e = ap (λ (x : Bool). x && true) (tested-is able (is-able e))
+          go false e = and-false others ∙ sym (and-false (suitsBefore g r))

@@ -2,6 +2,7 @@
 use mathlib.Core.Path.{refl, sym, _∙_}
 use denote.Ref.{now}
 use Rattle.outcome.specs.OneOutcome.{OneOutcome}
+use Rattle.vset.proofs.Same.{same-set}
 use Rattle.waiting.proofs.Numbers.{settled-one}
 use Rattle.waiting.proofs.settle as settle
 use Rattle.waiting.proofs.settle.Reads as settle-reads
@@ -9,6 +10,10 @@ use Rattle.waiting.proofs.begun as begun
 use Rattle.waiting.proofs.begun.Reads as begun-reads
 use Rattle.waiting.proofs.counted as counted
 use Rattle.waiting.proofs.counted.Reads as counted-reads
+use Rattle.waiting.proofs.held as held
+use Rattle.waiting.proofs.held.Reads as held-reads
+use Rattle.waiting.proofs.agree as agree
+use Rattle.waiting.proofs.agree.Reads as agree-reads
 
 pub counted-one : OneOutcome counted.ended counted-reads.Pre counted-reads.Post
 counted-one κs a r r′ ws ws′ pre p q = (p ∙ sym q, refl)
@@ -23,3 +28,9 @@ pub begun-one : OneOutcome begun.ended begun-reads.Pre begun-reads.Post
 begun-one κs a r r′ ws ws′ pre p q =
     let e = settled-one (now (a .0)) (now (a .1 .0)) (pre .0) (r .waiting) (r′ .waiting) _ (r .behind) (r′ .behind) p q in
     (λ i. record { waiting = e .1 i; behind = e .0 i }, refl)
+
+pub held-one : OneOutcome held.ended held-reads.Pre held-reads.Post
+held-one κs a r r′ ws ws′ pre p q = (same-set r r′ _ p q, refl)
+
+pub agree-one : OneOutcome agree.ended agree-reads.Pre agree-reads.Post
+agree-one κs a r r′ ws ws′ pre p q = (p ∙ sym q, refl)

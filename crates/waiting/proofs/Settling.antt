@@ -11,7 +11,7 @@ use lib.Dec.{eqb, ltb}
 use lib.ListN.{getD}
 use borrow.Author.Tests.{lt-ltb, le-ltb, ltb-false, eq-eqb, eqb-true}
 use Rattle.model.specs.Places.{count}
-use Rattle.model.proofs.Bools.{cases, left-of, right-of, or-right, or-cases, or-neither, not-is-true}
+use Rattle.model.proofs.Bools.{clash, cases, left-of, right-of, or-right, or-cases, or-neither, not-is-true}
 use Rattle.model.proofs.Places.{count-less}
 use Rattle.vset.specs.declared.Vset.{Vset}
 use Rattle.vset.specs.Members.{isIn, Members}
@@ -117,3 +117,26 @@ module _ (l starts : List ℕ) (L : Layout l starts) where
     counts = λ v h. U .counts v h ∙ entering-ext l (λ u. (busy u || isIn behind u) || done u) (λ u. busy u || isIn behind u) m v (λ u. ap (λ (x : Bool). (busy u || isIn behind u) || x) (none u) ∙ or-false (busy u || isIn behind u));
     stand = record { low = b .low; high = b .high; are = U .stand };
   }
+
+-- ---- some have run out of ticks
+
+-- who has run out of ticks, and stands behind nobody, is finished, and has its successors to tell
+pub run-out : (l : List ℕ) (m : ℕ) (w : List ℕ) (busy : ℕ → Bool) (behind : Vset) → Settled l m w busy behind → (over rest : ℕ → Bool) → ((v : ℕ) → over v ≡ true → busy v && not (isIn behind v) ≡ true)
+    → ((v : ℕ) → rest v ≡ busy v && not (over v)) → Unsettled l m w rest (isIn behind) over
+run-out l m w busy behind S over rest free is-rest = record {
+  long = S .long;
+  counts = λ v h. S .counts v h ∙ entering-ext l (λ u. busy u || isIn behind u) (λ u. (rest u || isIn behind u) || over u) m v same;
+  stand = S .stand .are;
+  apart = λ v t. ap₂ _||_ (is-rest v ∙ ap (λ (b : Bool). busy v && not b) t ∙ and-false (busy v)) (not-is-true (isIn behind v) (right-of (busy v) (not (isIn behind v)) (free v t)));
+}
+  where
+    moved : (b h o : Bool) → (o ≡ true → b ≡ true) → b || h ≡ ((b && not o) || h) || o
+    moved true true true f = refl
+    moved true true false f = refl
+    moved true false true f = refl
+    moved true false false f = refl
+    moved false h true f = absurd (clash (f refl) refl)
+    moved false h false f = sym (or-false h)
+
+    same : (u : ℕ) → busy u || isIn behind u ≡ (rest u || isIn behind u) || over u
+    same u = moved (busy u) (isIn behind u) (over u) (λ t. left-of (busy u) (not (isIn behind u)) (free u t)) ∙ ap (λ (b : Bool). (b || isIn behind u) || over u) (sym (is-rest u))

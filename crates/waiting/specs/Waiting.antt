@@ -11,13 +11,14 @@
 --   Told l a b w busy s new r          the same along the edges from place a up to b
 --   Unsettled l m w busy behind done   the numbers, where those in `done` have not told their successors
 --   Settled l m w busy behind          the numbers, where nobody has anything left to tell
+--   selfCounted l m w busy behind      the numbers agree with themselves: each counts the edges from those that are busy or stand behind
 use mathlib.Core.Path.{_≡_}
 use mathlib.Core.Bool.{Bool, true, false, not, _&&_, _||_}
 use mathlib.Core.List.{List}
 use Prim.Native.Nat.{ℕ, _-_, _≤_, _<_}
 use lib.Dec.{eqb, ltb, leb}
 use lib.ListN.{getD, length, set}
-use Rattle.model.specs.Places.{count, table}
+use Rattle.model.specs.Places.{count, every, table}
 use Rattle.vset.specs.declared.Vset.{Vset}
 use Rattle.vset.specs.Members.{isIn, Members}
 use Rattle.starts.specs.Starts.{comesFrom, leadsTo, startIn}
@@ -62,3 +63,6 @@ pub record Settled (l : List ℕ) (m : ℕ) (w : List ℕ) (busy : ℕ → Bool)
   pub long : length w ≡ 128
   pub counts : (v : ℕ) → v < 128 → getD w v 0 ≡ entering l (λ u. busy u || isIn behind u) m v
   pub stand : Members behind (λ v. ltb 0 (getD w v 0))
+
+unfoldable pub selfCounted : List ℕ → ℕ → List ℕ → (ℕ → Bool) → (ℕ → Bool) → Bool
+selfCounted l m w busy behind = every (λ v. eqb (getD w v 0) (entering l (λ u. busy u || behind u) m v)) 128

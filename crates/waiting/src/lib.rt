@@ -3,11 +3,11 @@
 ghost use mathlib.Core.Path.{_≡_};
 ghost use mathlib.Core.Bool.{true};
 ghost use Prim.Native.Nat.{ℕ, _≤_, _<_};
-ghost use lib.Dec.{ltb};
+ghost use lib.Dec.{eqb, ltb};
 ghost use lib.ListN.{getD, length};
-ghost use Rattle.model.specs.Places.{table};
+ghost use Rattle.model.specs.Places.{bit, every, table};
 ghost use Rattle.vset.specs.Members.{isIn, Members};
-ghost use Rattle.waiting.specs.Waiting.{entering, leading, edgesBy, Layout, Released, Told, Unsettled, Settled};
+ghost use Rattle.waiting.specs.Waiting.{entering, leading, edgesBy, Layout, Released, Told, Unsettled, Settled, selfCounted};
 ghost use Rattle.starts.specs.Starts.{comesFrom, leadsTo};
 use vset::Vset;
 
@@ -106,7 +106,7 @@ pub fn counted(edge: &[u16; 1024], edges: u16) -> [u8; 128]
 }
 
 // The vertices that wait for another.
-fn held(waiting: [u8; 128]) -> Vset
+pub fn held(waiting: [u8; 128]) -> Vset
     ensures { λ r. ⌜ Members r (λ v. ltb 0 (getD waiting v 0)) ⌝ }
 {
     let mut got = vset::none();
@@ -151,4 +151,51 @@ pub fn begun(edge: &[u16; 1024], starts: &[u16; 129], n: usize, busy: Vset) -> C
     let done = vset::minus(all(n), vset::either(busy, hind));
     let behind = settle(edge, starts, &mut waiting, busy, hind, done);
     Counters { waiting, behind }
+}
+
+fn one(on: bool) -> u8
+    ensures { λ r. ⌜ r ≡ bit on ⌝ }
+{
+    if on { 1 } else { 0 }
+}
+
+// How many edges lead to each vertex from one of the set.
+fn recounted(edge: &[u16; 1024], edges: usize, some: Vset) -> [u8; 128]
+    requires { ⌜ edges ≤ 1024 ⌝ }
+    requires { ⌜ ((i : ℕ) → i < edges → (comesFrom (now edge) i < 128) × (leadsTo (now edge) i < 128)) ⌝ }
+    requires { ⌜ ((v : ℕ) → entering (now edge) (λ u. true) edges v ≤ 128) ⌝ }
+    ensures { λ r. ⌜ r ≡ table (entering (now (edge .entry)) (isIn some) edges) 128 ⌝ }
+{
+    let mut waiting = [0u8; 128];
+    let mut i = 0usize;
+    while i < edges {
+        let v = starts::to(edge[i]);
+        waiting[v] = waiting[v] + one(vset::test(some, starts::from(edge[i])));
+        i += 1;
+    }
+    waiting
+}
+
+fn same(a: [u8; 128], b: [u8; 128]) -> bool
+    ensures { λ r. ⌜ r ≡ every (λ v. eqb (getD a v 0) (getD b v 0)) 128 ⌝ }
+{
+    let mut ok = true;
+    let mut v = 0usize;
+    while v < 128 {
+        ok = ok & (a[v] == b[v]);
+        v += 1;
+    }
+    ok
+}
+
+// Whether the numbers are right. They are taken at their word: a vertex is unfinished where it has ticks left or its number is not 0, and
+// one pass over the edges counts the predecessors that are so. Where there is no cycle, only the right numbers agree with themselves.
+pub fn agree(edge: &[u16; 1024], edges: usize, waiting: [u8; 128], busy: Vset, behind: Vset) -> bool
+    requires { ⌜ edges ≤ 1024 ⌝ }
+    requires { ⌜ ((i : ℕ) → i < edges → (comesFrom (now edge) i < 128) × (leadsTo (now edge) i < 128)) ⌝ }
+    requires { ⌜ ((v : ℕ) → entering (now edge) (λ u. true) edges v ≤ 128) ⌝ }
+    ensures { λ r. ⌜ r ≡ selfCounted (now (edge .entry)) edges waiting (isIn busy) (isIn behind) ⌝ }
+{
+    let some = vset::either(busy, behind);
+    same(waiting, recounted(edge, edges, some))
 }

@@ -1,7 +1,13 @@
 -- What the reader says, what the times say, and what was found.
-use mathlib.Core.Path.{sym, _∙_}
-use Rattle.reader.specs.Laid.{Usable}
+use mathlib.Core.Path.{_≡_, refl, sym, _∙_}
+use denote.Ref.{now}
+use Rattle.graph.specs.declared.Graph.{Graph}
+use Rattle.graph.specs.declared.Answer.the-variants.{Accepted}
+use Rattle.reader.specs.Laid.{graphIn, Usable}
 use Rattle.reader.proofs.Laying.{usable}
+use Rattle.tick.specs.Lists.{GraphOf}
+use Rattle.leaps.proofs.Stopping.{lent}
+use Rattle.times.specs.Times.{judgeTimes}
 use Rattle.times.proofs.Fits.{times-fit}
 use Rattle.late.proofs.Answers.{late-unread, late-untimed, late-told}
 use borrow.Author.Needs.{needs}
@@ -20,13 +26,17 @@ refused-requires c κs = search needs
 enum-told : tie.Need-enum-told
 enum-told c = search needs
 
+-- the graph whose lists were filled
+abbrev graph : tie.After-take → Graph
+graph r = let x = r .take in graphIn (x .result) (x .last .1 .0) (x .last .1 .1 .0) (x .last .1 .1 .1 .0) (x .last .1 .1 .1 .1 .0)
+
 -- the lists are those of an accepted graph
 lists : (t : tie.After-enum-told) → let x = t .before .before .take in
     Usable (x .result) (x .last .1 .0) (x .last .1 .1 .0) (x .last .1 .1 .1 .0) (x .last .1 .1 .1 .1 .0) (x .last .1 .1 .1 .1 .1 .0) (x .last .1 .1 .1 .1 .1 .1 .0)
 lists t = let r = t .before .before in usable _ _ _ _ _ _ _ _ (r .take .ensures) (λ i. r .before .before .before .before .before .before .before .before .shared-slice-known .given i .fits) (t .enum-told .given .1)
 
 judge-requires : tie.Need-judge-requires
-judge-requires c κs = lists c .accepted .few-vertices
+judge-requires c κs = lists (c .before) .accepted .few-vertices
 
 enum-known-judged : tie.Need-enum-known-judged
 enum-known-judged c = search needs
@@ -37,15 +47,23 @@ refused-requires-2 c κs = search needs
 enum-told-2 : tie.Need-enum-told-2
 enum-told-2 c = search needs
 
+-- the times fit
+fit : (c : tie.After-enum-told2) → let r = c .before .before .before .before .before .before in judgeTimes (graph r) (now (r .before .before .before .before .before .before .before .before .before .args .times)) ≡ Accepted
+fit c = let j = c .before .before in sym (j .judge .ensures (graph (j .before .before .before .before)) refl refl) ∙ c .enum-told2 .given .1
+
 new-of-requires : tie.Need-new-of-requires
-new-of-requires c κs = lists (c .before .before .before .before .before .before .before .before .before)
+new-of-requires c κs = lists (c .before .before .before .before .before .before .before .before .before .before)
+
+-- what is lent
+run-of : (c : tie.After-enum-told2) → let r = c .before .before .before .before .before .before in let x = r .take in
+    GraphOf (graph r) (x .result .kinds) (x .result .n) (x .last .1 .0) (x .last .1 .1 .0) (x .last .1 .1 .1 .1 .0) (x .last .1 .1 .1 .1 .1 .0)
+run-of c = let t = c .before .before .before .before in let u = lists t in lent (graph (t .before .before)) (u .accepted) _ (u .along .starts)
 
 decided-requires : tie.Need-decided-requires
 decided-requires c κs =
-    let o = c .before .before in
-    let j = o .before .before .before .before .before .before .before .before in
-    let u = lists (j .before) in
-    (u .accepted, (times-fit _ _ (sym (j .judge .ensures) ∙ o .before .before .before .before .before .before .enum-told2 .given .1), (u .along .starts, c .before .new-of .ensures)))
+    let e = c .before .before .before .before .before .before .before .before .before .before .before in
+    let r = e .before .before .before .before .before .before in
+    (graph r, run-of e, times-fit (graph r) _ (fit e))
 
 returns : tie.Need-returns
 returns c =
@@ -55,15 +73,18 @@ returns c =
 returns-2 : tie.Need-returns-2
 returns-2 c =
     let j = c .before .before .before .before in
-    let t = j .before in
-    late-untimed _ (t .before .before .take .ensures) _ _ (c .refused2 .result) (t .enum-told .given .1) (sym (j .judge .ensures) ∙ c .before .before .judged .given .1) (c .refused2 .ensures .0) (c .refused2 .ensures .1)
+    let t = j .before .before in
+    let r = t .before .before in
+    late-untimed _ (r .take .ensures) _ _ (c .refused2 .result) (t .enum-told .given .1) (sym (j .judge .ensures (graph r) refl refl) ∙ c .before .before .judged .given .1) (c .refused2 .ensures .0) (c .refused2 .ensures .1)
 
 returns-3 : tie.Need-returns-3
 returns-3 c =
-    let o = c .before .before .before in
-    let j = o .before .before .before .before .before .before .before .before in
-    let t = j .before in
-    late-told _ (t .before .before .take .ensures) _ _ (c .decided .result) (t .enum-told .given .1) (sym (j .judge .ensures) ∙ o .before .before .before .before .before .before .enum-told2 .given .1) (c .decided .ensures .0) (c .decided .ensures .1)
+    let o = c .before .before .before .before .before in
+    let e = o .before .before .before .before .before .before .before in
+    let t = e .before .before .before .before in
+    let r = t .before .before in
+    late-told _ (r .take .ensures) _ _ (c .decided .result) (t .enum-told .given .1) (fit e) (c .decided .ensures .0)
+    (c .decided .ensures .1 (graph r) (run-of e) (times-fit (graph r) _ (fit e)) (o .new-of .ensures))
 
 pub late-spec : {M : Type 1} → statement M
 late-spec =

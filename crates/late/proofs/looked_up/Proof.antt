@@ -1,18 +1,25 @@
-use mathlib.Core.Path.{refl, _∙_}
+use mathlib.Core.Path.{refl, sym, _∙_}
 use denote.Ref.{now}
+use Rattle.graph.specs.declared.Graph.{Graph}
 use Rattle.vset.specs.Members.{isIn}
+use Rattle.tick.specs.Lists.{GraphOf}
+use Rattle.leaps.specs.Leaps.{Fresh}
+use Rattle.times.specs.Times.{Fitting}
 use Rattle.late.proofs.Answers.{fresh, ticks-played, has-ended}
 use borrow.Author.Needs.{needs}
 use Rattle.late.proofs.looked_up.Statement.{statement}
 use Rattle.late.proofs.looked_up.Tie as tie
 
+-- the record that is played, where what is lent is the graph g
+fresh-by : (c : tie.After-begun) (g : Graph) → let s = c .before .before in GraphOf g (s .args .kinds) (s .args .n) (now (s .args .cores)) (now (s .args .kind)) (now (s .args .edge)) (now (s .args .starts))
+    → Fitting g (now (s .args .times)) → Fresh g (c .begun .result)
+fresh-by c g L F = let s = c .before .before in fresh g (L .edges .accepted) (now (s .args .times)) F (s .args .d) (c .begun .result) (c .begun .ensures g (L .edges))
+
 begun-requires : tie.Need-begun-requires
-begun-requires c κs = (c .before .pre .0 .few-vertices, c .before .pre .1 .0 .as-many)
+begun-requires c κs = let s = c .before in ((s .pre .0, s .pre .1 .edges), s .pre .2 .as-many ∙ sym (s .pre .1 .edges .n-is))
 
 until-requires : tie.Need-until-requires
-until-requires c κs =
-    let s = c .before .before in
-    (s .pre .0, (fresh (s .args .g) (s .pre .0) (now (s .args .times)) (s .pre .1 .0) (s .args .d) (c .begun .result) (c .begun .ensures), s .pre .1 .1))
+until-requires c κs = let s = c .before .before in (s .pre .0, s .pre .1, fresh-by c (s .pre .0) (s .pre .1) (s .pre .2))
 
 busy-requires : tie.Need-busy-requires
 busy-requires c κs = search needs
@@ -21,17 +28,20 @@ is-empty-requires : tie.Need-is-empty-requires
 is-empty-requires c κs = search needs
 
 returns : tie.Need-returns
-returns c =
-    let u = c .before .before .before in
-    let b = u .before in
-    let s = b .before .before in (
-      refl,
-      (
-        c .is-empty .ensures
-            ∙ has-ended (s .args .g) (s .pre .0) (now (s .args .times)) (s .pre .1 .0) (s .args .d) (b .begun .result) (b .begun .ensures) (u .until .result) (u .until .ensures) (isIn (c .before .busy .result)) (c .before .busy .ensures .are),
-        ticks-played (s .args .g) (s .pre .0) (now (s .args .times)) (s .pre .1 .0) (s .args .d) (b .begun .result) (b .begun .ensures) (u .until .result) (u .until .ensures),
+returns c = (
+  refl,
+  λ g L F.
+      let u = c .before .before .before in
+      let b = u .before in
+      let s = b .before .before in
+      let A = L .edges .accepted in
+      let e = now (s .args .times) in
+      let is-begun = b .begun .ensures g (L .edges) in
+      let is-end = u .until .ensures g L (fresh-by b g L F) in (
+        c .is-empty .ensures ∙ has-ended g A e F (s .args .d) (b .begun .result) is-begun (u .until .result) is-end (isIn (c .before .busy .result)) (c .before .busy .ensures .are),
+        ticks-played g A e F (s .args .d) (b .begun .result) is-begun (u .until .result) is-end,
       ),
-    )
+)
 
 pub looked-up-spec : {M : Type 1} → statement M
 looked-up-spec =

@@ -1,36 +1,34 @@
 use mathlib.Core.Path.{refl}
-use Rattle.graph.specs.Model.{from}
+use denote.Ref.{now}
+use Rattle.vset.specs.Members.{isIn}
+use Rattle.ready.specs.Ready.{someLeft}
+use Rattle.remains.specs.Remains.{place}
 use Rattle.tick.specs.Run.{leftOf}
-use Rattle.leaps.proofs.ByNumbers.{edges-counted, layout}
+use Rattle.tick.proofs.Awaited.{awaited-settled}
 use Rattle.leaps.proofs.Leaping.{kept-start}
 use borrow.Author.Needs.{needs}
 use Rattle.leaps.proofs.at_start.Statement.{statement}
 use Rattle.leaps.proofs.at_start.Tie as tie
 
-busy-requires : tie.Need-busy-requires
-busy-requires c κs = search needs
-
-begun-requires : tie.Need-begun-requires
-unfolding from
-begun-requires c κs =
-    let s = c .before .before in
-    let g = s .pre .0 in
-    let E = s .pre .1 in
-    let A = E .accepted in
-    rw (E .edges-are, E .starts-are, E .n-is) (layout g A, (A .few-vertices, λ i h. A .from-known i (rw (edges-counted g A) at h)))
-
 none-requires : tie.Need-none-requires
 none-requires c κs = search needs
 
+busy-requires : tie.Need-busy-requires
+busy-requires c κs = search needs
+
+held-requires : tie.Need-held-requires
+held-requires c κs = search needs
+
 returns : tie.Need-returns
-unfolding leftOf
+unfolding leftOf someLeft
 returns c = (
   refl,
-  λ g E T.
-      let b = c .before .before .before in
-      kept-start g (E .accepted) _ (record { agrees = refl; at-start = refl; short = T .short; past = T .past; unmarked = c .none .ensures .are }) _ refl refl (b .before .busy .ensures .are)
-      (rw (E .edges-are, E .starts-are, edges-counted g (E .accepted)) at (b .begun .ensures)) refl (T .long),
+  λ g A T.
+      let b = c .before in
+      let s = b .before .before .before .before in
+      kept-start g A _ (record { agrees = refl; at-start = refl; short = T .short; past = T .past; unmarked = b .before .none .ensures .are; numbers = T .numbers }) _ refl refl (b .busy .ensures .are)
+      (awaited-settled g A (place (now (s .args .left))) (isIn (b .busy .result)) (b .busy .ensures .are) (now (s .args .waiting)) (c .held .result) (T .numbers) (c .held .ensures)) refl (T .long),
 )
 
 pub at-start-spec : {M : Type 1} → statement M
-at-start-spec = tie.close (tie.spec busy-requires begun-requires none-requires returns)
+at-start-spec = tie.close (tie.spec none-requires busy-requires held-requires returns)

@@ -10,9 +10,10 @@ use Rattle.tick.specs.Run.{MOST, leftOf, stateOf}
 use Rattle.choice.specs.Choice.{chosenBy}
 use Rattle.waiting.specs.Waiting.{Settled}
 use Rattle.choice.proofs.ByKind.{few-go-on}
-use Rattle.leaps.proofs.ByNumbers.{edges-counted, layout}
-use Rattle.leaps.specs.Leaps.{Work, workOf, ListsOf}
-use Rattle.leaps.proofs.OneLeap.{within, at-most, unsettled, leapt}
+use Rattle.ready.proofs.ByNumbers.{edges-counted, layout}
+use Rattle.tick.specs.Lists.{ListsOf}
+use Rattle.leaps.specs.Leaps.{Work, workOf}
+use Rattle.leaps.proofs.OneLeap.{within, at-most, untold, leapt}
 use borrow.Author.Needs.{needs}
 use Rattle.leaps.proofs.leap.Statement.{statement}
 use Rattle.leaps.proofs.leap.Tie as tie
@@ -104,7 +105,7 @@ settle-requires c κs =
     let S = s .pre .0 .2 in
     rw (L .edges-are, L .starts-are, edges-counted g (L .accepted)) (
       layout g (L .accepted),
-      unsettled g (L .accepted) (old g s) S (s .pre .1 .0) (isIn (o .before .minus .result)) (isIn (o .chosen .result)) (o .before .minus .ensures .are) (now (s .args .words)) (L .words-are) (on-by o g L)
+      untold g (L .accepted) (old g s) S (s .pre .1 .0) (isIn (o .before .minus .result)) (isIn (o .chosen .result)) (o .before .minus .ensures .are) (now (s .args .words)) (L .words-are) (on-by o g L)
           (isIn (e .before .minus2 .result)) (e .before .minus2 .ensures .are) (e .least .result) (e .least .ensures) (s .args .room) (f .lesser .result) (s .pre .1 .1) (f .lesser .ensures) (l .lower .last .0) (l .lower .result .over) (c .before .before .minus3 .result) (c .before .minus4 .result) (l .lower .ensures .0) (l .lower .ensures .1 .0 .are) (c .before .before .minus3 .ensures) (c .before .minus4 .ensures .are),
     )
 

@@ -1,13 +1,26 @@
-use mathlib.Core.Path.{sym, _∙_}
+use mathlib.Core.Path.{refl, sym, _∙_}
 use denote.Ref.{now}
-use Rattle.reader.proofs.Laying.{read-accepted}
+use Rattle.graph.specs.declared.Graph.{Graph}
+use Rattle.reader.specs.Laid.{graphIn}
+use Rattle.reader.proofs.Laying.{usable, handed-over, handed-back}
+use Rattle.tick.specs.Lists.{EdgesOf}
 use Rattle.schedule.proofs.Answers.{start-accepted, start-refused}
 use borrow.Author.Needs.{needs}
 use Rattle.schedule.proofs.start.Statement.{statement}
 use Rattle.schedule.proofs.start.Tie as tie
 
-read-requires : tie.Need-read-requires
-read-requires c κs = search needs
+-- the graph whose lists were filled
+abbrev graph : tie.After-take → Graph
+graph r = let x = r .take in graphIn (x .result) (x .last .1 .0) (x .last .1 .1 .0) (x .last .1 .1 .1 .0) (x .last .1 .1 .1 .1 .0)
+
+edges : (t : tie.After-enum-told) → let r = t .before .before in EdgesOf (graph r) (r .take .result .n) (r .take .last .1 .1 .1 .1 .0) (r .take .last .1 .1 .1 .1 .1 .0)
+edges t =
+    let r = t .before .before in
+    let u = usable _ _ _ _ _ _ _ _ (r .take .ensures) (λ i. r .before .before .before .before .before .before .before .before .shared-slice-known .given i .fits) (t .enum-told .given .1) in
+    record { accepted = u .accepted; n-is = refl; edges-are = refl; starts-are = u .along .starts }
+
+take-requires : tie.Need-take-requires
+take-requires c κs = search needs
 
 enum-known-answer : tie.Need-enum-known-answer
 enum-known-answer c = search needs
@@ -19,25 +32,27 @@ enum-told : tie.Need-enum-told
 enum-told c = search needs
 
 start-on-requires : tie.Need-start-on-requires
-start-on-requires c κs =
-    let s = c .before .before .before .before .before .before in
-    read-accepted (now (s .args .file)) (c .before .before .before .read .ensures) (λ i. c .before .before .before .before .before .shared-slice-known .given i .fits) (c .before .enum-told .given .1) .few-vertices
+start-on-requires c κs = let t = c .before .before .before in (graph (t .before .before), edges t, refl)
 
 returns : tie.Need-returns
 returns c =
-    let s = c .before .before .before .before .before .before .before in
-    c .refused-start .ensures ∙ sym (start-refused (now (s .args .file)) (c .before .before .before .before .read .result) (c .before .before .before .before .read .ensures) _ (c .before .before .answer .given .1) (now (s .args .times)))
+    let a = c .before .before in
+    let r = a .before .before in
+    let s = r .before .before .before .before .before .before .before .before .before in
+    c .refused-start .ensures ∙ sym (start-refused (now (s .args .file)) _ (handed-back _ _ _ _ _ _ _ _ (r .take .ensures) (a .answer .given .1)) _ refl (now (s .args .times)))
 
 returns-2 : tie.Need-returns-2
 returns-2 c =
-    let s = c .before .before .before .before .before .before .before in
-    c .start-on .ensures ∙ sym (start-accepted (now (s .args .file)) (c .before .before .before .before .read .result) (c .before .before .before .before .read .ensures) (c .before .before .enum-told .given .1) (now (s .args .times)))
+    let t = c .before .before .before .before in
+    let r = t .before .before in
+    let s = r .before .before .before .before .before .before .before .before .before in
+    c .start-on .ensures (graph r) (edges t) refl ∙ sym (start-accepted (now (s .args .file)) _ (handed-over _ _ _ _ _ _ _ _ (r .take .ensures) (t .enum-told .given .1)) refl (now (s .args .times)))
 
 pub start-spec : {M : Type 1} → statement M
 start-spec =
     tie.close
     (tie.spec
-    read-requires
+    take-requires
     enum-known-answer
     refused-start-requires
     enum-told

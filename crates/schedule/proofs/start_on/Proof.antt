@@ -6,45 +6,38 @@ use Rattle.schedule.specs.Start.{startedOn}
 use borrow.Author.Needs.{needs}
 use Rattle.schedule.proofs.start_on.Statement.{statement}
 use Rattle.schedule.proofs.start_on.Tie as tie
-use Rattle.schedule.proofs.start_on.Reads as reads
-use Rattle.schedule.proofs.start_on.Lts as lts
-use Rattle.schedule.proofs.refused_start.Reads as refused-start-reads
-use Rattle.times.proofs.begun.Reads as begun-reads
-use Rattle.times.proofs.judge.Reads as judge-reads
 
--- src/lib.rt:60:9
 judge-requires : tie.Need-judge-requires
 judge-requires c κs = search needs
 
--- src/lib.rt:62:25
 enum-known-answer : tie.Need-enum-known-answer
 enum-known-answer c = search needs
 
--- src/lib.rt:62:37
 refused-start-requires : tie.Need-refused-start-requires
 refused-start-requires c κs = search needs
 
--- src/lib.rt:64:17
 enum-told : tie.Need-enum-told
 enum-told c = search needs
 
--- src/lib.rt:64:17
 begun-requires : tie.Need-begun-requires
 begun-requires c κs =
-    let s = c .before .before .before .before in
-    (s .pre, times-fit (s .args .g) (now (s .args .times)) (sym (c .before .before .judge .ensures) ∙ c .enum-told .given .1) .as-many)
+    let j = c .before .before in
+    let s = j .before .before in
+    let g = s .pre .0 in
+    let E = s .pre .1 in
+    ((g, E), times-fit g (now (s .args .times)) (sym (j .judge .ensures g (E .n-is) (s .pre .2)) ∙ c .enum-told .given .1) .as-many ∙ sym (E .n-is))
 
--- src/lib.rt:56:1
 returns : tie.Need-returns
-returns c =
-    let s = c .before .before .before .before .before .before in
-    c .refused-start .ensures ∙ sym (started-refused (s .args .g) (now (s .args .times)) _ (sym (c .before .before .before .before .judge .ensures) ∙ c .before .before .answer .given .1))
+returns c g E w =
+    let a = c .before .before in
+    let j = a .before .before in
+    c .refused-start .ensures ∙ sym (started-refused g (now (j .before .before .args .times)) _ (sym (j .judge .ensures g (E .n-is) w) ∙ a .answer .given .1))
 
--- src/lib.rt:56:1
 returns-2 : tie.Need-returns-2
 unfolding startedOn
-returns-2 c =
-    rw (sym (c .before .before .before .judge .ensures) ∙ c .before .enum-told .given .1, c .begun .ensures) refl
+returns-2 c g E w =
+    let t = c .before in
+    rw (sym (t .before .before .judge .ensures g (E .n-is) w) ∙ t .enum-told .given .1, c .begun .ensures g E) refl
 
 pub start-on-spec : {M : Type 1} → statement M
 start-on-spec =

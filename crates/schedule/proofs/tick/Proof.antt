@@ -1,13 +1,13 @@
-use mathlib.Core.Path.{sym, _∙_}
+use mathlib.Core.Path.{refl, sym, _∙_}
 use denote.Ref.{now}
-use Rattle.reader.proofs.Laying.{read-accepted}
+use Rattle.reader.proofs.Laying.{usable, handed-over, handed-back}
 use Rattle.schedule.proofs.Answers.{tick-accepted, tick-refused}
 use borrow.Author.Needs.{needs}
 use Rattle.schedule.proofs.tick.Statement.{statement}
 use Rattle.schedule.proofs.tick.Tie as tie
 
-read-requires : tie.Need-read-requires
-read-requires c κs = search needs
+take-requires : tie.Need-take-requires
+take-requires c κs = search needs
 
 enum-known-answer : tie.Need-enum-known-answer
 enum-known-answer c = search needs
@@ -17,20 +17,32 @@ enum-told c = search needs
 
 tick-on-requires : tie.Need-tick-on-requires
 tick-on-requires c κs =
-    let s = c .before .before .before .before .before in
-    read-accepted (now (s .args .file)) (c .before .before .before .read .ensures) (λ i. c .before .before .before .before .shared-slice-known .given i .fits) (c .before .enum-told .given .1)
+    let t = c .before .before .before .before .before in
+    let r = t .before .before in
+    let u = usable _ _ _ _ _ _ _ _ (r .take .ensures) (λ i. r .before .before .before .before .before .before .before .shared-slice-known .given i .fits) (t .enum-told .given .1) in
+    (u .accepted, u .along .starts)
 
 returns : tie.Need-returns
 returns c =
-    let s = c .before .before .before .before .before in
-    sym (tick-refused (now (s .args .file)) (c .before .before .before .read .result) (c .before .before .before .read .ensures) _ (c .before .answer .given .1) (s .args .run))
+    let a = c .before in
+    let r = a .before .before in
+    let s = r .before .before .before .before .before .before .before .before in
+    sym (tick-refused (now (s .args .file)) _ (handed-back _ _ _ _ _ _ _ _ (r .take .ensures) (a .answer .given .1)) _ refl (s .args .run))
 
 returns-2 : tie.Need-returns-2
 returns-2 c =
-    let s = c .before .before .before .before .before .before in
-    c .tick-on .ensures ∙ sym (tick-accepted (now (s .args .file)) (c .before .before .before .before .read .result) (c .before .before .before .before .read .ensures) (c .before .before .enum-told .given .1) (s .args .run))
+    let t = c .before .before .before .before .before .before in
+    let r = t .before .before in
+    let s = r .before .before .before .before .before .before .before .before in
+    c .tick-on .ensures ∙ sym (tick-accepted (now (s .args .file)) _ (handed-over _ _ _ _ _ _ _ _ (r .take .ensures) (t .enum-told .given .1)) refl (s .args .run))
 
 pub tick-spec : {M : Type 1} → statement M
 tick-spec =
     tie.close
-    (tie.spec read-requires enum-known-answer enum-told tick-on-requires returns returns-2)
+    (tie.spec
+    take-requires
+    enum-known-answer
+    enum-told
+    tick-on-requires
+    returns
+    returns-2)

@@ -1,30 +1,53 @@
-use mathlib.Core.Path.{refl, sym, _∙_}
+use mathlib.Core.Path.{_≡_, refl, sym, _∙_}
+use denote.Ref.{now}
+use Rattle.graph.specs.declared.Graph.{Graph}
+use Rattle.choice.proofs.ByKind.{kinds-known}
+use Rattle.reader.specs.Laid.{graphIn}
+use Rattle.tick.specs.Lists.{ListsOf, TestOf}
+use Rattle.tick.specs.Suits.{suits}
 use Rattle.schedule.specs.Tick.{tickOn}
-use borrow.Author.Needs.{needs}
 use Rattle.schedule.proofs.tick_on.Statement.{statement}
 use Rattle.schedule.proofs.tick_on.Tie as tie
-use Rattle.schedule.proofs.tick_on.Reads as reads
-use Rattle.schedule.proofs.tick_on.Lts as lts
-use Rattle.tick.proofs.Run.tick.Reads as tick-reads
-use Rattle.tick.proofs.suits.Reads as suits-reads
 
--- src/lib.rt:92:8
+-- the graph whose lists are lent
+abbrev lent : tie.Start → Graph
+lent s = graphIn (s .args .h) (now (s .args .cores)) (now (s .args .kind)) (now (s .args .wcet)) (now (s .args .edge))
+
+test : (c : tie.After-of-kinds) → let s = c .before in
+    TestOf (lent s) (s .args .h .kinds) (s .args .h .n) (s .args .h .edges) (now (s .args .cores)) (c .of-kinds .result) (now (s .args .wcet)) (now (s .args .edge))
+test c = record { accepted = c .before .pre .0; kinds-are = refl; n-is = refl; edges-many = refl; cores-are = refl; words-are = c .of-kinds .ensures; wcet-is = refl; edges-are = refl }
+
+lists : (c : tie.After-of-kinds) → let s = c .before in
+    ListsOf (lent s) (s .args .h .kinds) (now (s .args .cores)) (c .of-kinds .result) (now (s .args .edge)) (now (s .args .starts))
+lists c = record { accepted = c .before .pre .0; kinds-are = refl; cores-are = refl; words-are = c .of-kinds .ensures; edges-are = refl; starts-are = c .before .pre .1 }
+
+suited : (c : tie.After-suits) → let s = c .before .before .before in c .suits .result ≡ suits (lent s) (s .args .run)
+suited c = let o = c .before .before in c .suits .ensures (lent (o .before)) (test o)
+
+of-kinds-requires : tie.Need-of-kinds-requires
+of-kinds-requires c κs = (c .pre .0 .few-vertices, kinds-known (lent c) (c .pre .0))
+
 suits-requires : tie.Need-suits-requires
-suits-requires c κs = search needs
+suits-requires c κs = let o = c .before in (lent (o .before), test o)
 
--- src/lib.rt:93:9
 tick-requires : tie.Need-tick-requires
-tick-requires c κs = (c .before .before .pre, sym (c .before .suits .ensures) ∙ c .if1 .taken)
+tick-requires c κs =
+    let t = c .before .before in
+    let o = t .before .before in
+    (lent (o .before), lists o, sym (suited t) ∙ c .before .if1 .taken)
 
--- src/lib.rt:88:1
 returns : tie.Need-returns
 unfolding tickOn
-returns c = rw (← c .before .before .suits .ensures, c .before .if1 .taken) (c .tick .ensures)
+returns c =
+    let i = c .before .before in
+    let t = i .before in
+    let o = t .before .before in
+    rw (← suited t, i .if1 .taken) (c .tick .ensures (lent (o .before)) (lists o) (sym (suited t) ∙ i .if1 .taken))
 
--- src/lib.rt:88:1
 returns-2 : tie.Need-returns-2
 unfolding tickOn
-returns-2 c = rw (← c .before .suits .ensures, c .if1 .left) refl
+returns-2 c = rw (← suited (c .before), c .if1 .left) refl
 
 pub tick-on-spec : {M : Type 1} → statement M
-tick-on-spec = tie.close (tie.spec suits-requires tick-requires returns returns-2)
+tick-on-spec =
+    tie.close (tie.spec of-kinds-requires suits-requires tick-requires returns returns-2)

@@ -1,33 +1,21 @@
 use mathlib.Core.Path.{_≡_, refl, sym, ap, _∙_}
-use mathlib.Core.Bool.{Bool, true, false}
+use mathlib.Core.Bool.{Bool, true}
 use denote.Ref.{now}
 use Prim.Native.Nat.{ℕ, _+_, _-_, _≤_, _<_}
 use native.Mathlib.Omega.{arith}
 use borrow.Author.Needs.{needs}
-use borrow.Author.Tests.{eqb-true, eq-eqb}
-use lib.Dec.{eqb}
+use borrow.Author.Tests.{eq-eqb}
 use lib.ListN.{getD, length, length-set, getD-replicate}
-use Rattle.model.specs.Places.{pick, bit}
-use Rattle.model.proofs.Bools.{clash, same-test}
+use Rattle.model.specs.Places.{bit}
 use Rattle.waiting.specs.Waiting.{entering}
 use Rattle.starts.specs.Starts.{leadsTo}
-use Rattle.model.proofs.Turns.{as-table, put-at}
-use Rattle.waiting.proofs.Numbers.{entering-none, entering-more, entering-up}
+use Rattle.model.proofs.Turns.{as-table}
+use Rattle.waiting.proofs.Numbers.{entering-none, entering-more, entering-up, entered}
 use Rattle.waiting.proofs.counted.Statement.{statement}
 use Rattle.waiting.proofs.counted.Tie as tie
 use Rattle.waiting.proofs.counted.Reads as reads
 use Rattle.waiting.proofs.counted.Lts as lts
 use Rattle.starts.proofs.to.Reads as to-reads
-
-eqb-turn : (v t : ℕ) → eqb v t ≡ eqb t v
-eqb-turn v t = same-test (eqb v t) (eqb t v) (λ h. eq-eqb t v (sym (eqb-true v t h))) (λ h. eq-eqb v t (sym (eqb-true t v h)))
-
--- one more where it is the place, and nothing else
-entered : (a b : Bool) → a ≡ b → (x y : ℕ) → (a ≡ true → x ≡ y) → pick a (x + 1) y ≡ y + bit b
-entered true true e x y h = ap (λ (z : ℕ). z + 1) (h refl)
-entered true false e x y h = absurd (clash refl e)
-entered false true e x y h = absurd (clash e refl)
-entered false false e x y h = omega arith
 
 abbrev Inv-loop : tie.InvT-loop
 Inv-loop edge edges waiting₀ i₀ waiting i = (i ≤ edges) × ((length waiting ≡ 128) × ((v : ℕ) → v < 128 → getD waiting v 0 ≡ entering edge (λ u. true) i v))
@@ -98,10 +86,7 @@ loop-again c =
       omega arith,
       rw (c .to .ensures) (
         length-set (l .waiting) t (getD (l .waiting) t 0 + 1) ∙ l .inv .1 .0,
-        λ v k.
-            put-at (l .waiting) t (getD (l .waiting) t 0 + 1) v (omega (arith, h, l .inv .1 .0))
-            ∙ entered (eqb v t) (eqb t v) (eqb-turn v t) (getD (l .waiting) t 0) (getD (l .waiting) v 0) (λ q. ap (λ (x : ℕ). getD (l .waiting) x 0) (sym (eqb-true v t q)))
-            ∙ ap (λ (x : ℕ). x + bit (eqb t v)) (l .inv .1 .1 v k) ∙ sym (entering-more e (λ u. true) (l .i) v),
+        λ v k. entered e (l .waiting) (λ u. true) (l .i) v (l .inv .1 .0) h (l .inv .1 .1 v k),
       ),
     )
 

@@ -1,107 +1,157 @@
 use native.Mathlib.Omega.{arith}
-use mathlib.Core.Path.{_≡_, refl, sym, ap, _∙_}
+use mathlib.Core.Path.{_≡_, refl, sym, ap, ap₂, _∙_}
+use mathlib.Core.List.{List}
 use mathlib.Core.Bool.{true}
-use Prim.Native.Nat.{ℕ, _+_, _≤_, _<_}
+use denote.Ref.{now}
+use Prim.Native.Nat.{ℕ, _≤_}
 use lib.ListN.{length}
-use Rattle.model.specs.ListSchedule.{State, chosen}
-use Rattle.graph.specs.Model.{asModel}
+use Rattle.graph.specs.declared.Graph.{Graph}
 use Rattle.vset.specs.Members.{isIn}
+use Rattle.waiting.specs.Waiting.{Settled}
+use Rattle.choice.specs.Choice.{chosenBy}
+use Rattle.choice.proofs.ByKind.{few-go-on}
+use Rattle.ready.proofs.ByNumbers.{edges-counted, layout}
+use Rattle.tick.specs.declared.Run.{Run}
 use Rattle.tick.specs.declared.Ticked.{Ticked}
 use Rattle.tick.specs.declared.Report.the-variants.{Moved}
-use Rattle.tick.specs.Run.{leftOf, stateOf, recordOf, over, tickedOf}
-use Rattle.choice.proofs.ByKind.{kinds-known, few-go-on}
-use Rattle.tick.proofs.Suiting.{passed, suits-sound, nothing-left}
-use Rattle.tick.proofs.Ticking.{over-is, on-is, on-runs}
-use Rattle.tick.proofs.Records.{after-leap}
+use Rattle.tick.specs.Run.{leftOf, stateOf, over, tickedOf}
+use Rattle.tick.specs.Suits.{suits}
+use Rattle.tick.specs.Lists.{ListsOf}
+use Rattle.tick.proofs.Suiting.{suits-sound, suits-settled, nothing-past}
+use Rattle.tick.proofs.Ticking.{over-is, on-runs, unsettled, moves}
 use borrow.Author.Needs.{needs}
 use Rattle.tick.proofs.Run.tick.Statement.{statement}
 use Rattle.tick.proofs.Run.tick.Tie as tie
-use Rattle.tick.proofs.Run.tick.Reads as reads
-use Rattle.tick.proofs.Run.tick.Lts as lts
-use Rattle.tick.proofs.Run.advance.Reads as advance-reads
-use Rattle.choice.proofs.chosen.Reads as chosen-reads
-use Rattle.choice.proofs.of_kinds.Reads as of-kinds-reads
-use Rattle.ready.proofs.behind.Reads as behind-reads
-use Rattle.ready.proofs.busy.Reads as busy-reads
-use Rattle.vset.proofs.is_empty.Reads as is-empty-reads
-use Rattle.vset.proofs.minus.Reads as minus-reads
+
+-- the lists that are lent are those of the graph g, and the record suits it
+record Suited (s : tie.Start) (g : Graph) : Type 0 where
+  lent : ListsOf g (s .args .kinds) (now (s .args .cores)) (now (s .args .words)) (now (s .args .edge)) (now (s .args .starts))
+  suited : suits g (s .args .self) ≡ true
+
+some : (s : tie.Start) → Suited s (s .pre .0)
+some s = record { lent = s .pre .1; suited = s .pre .2 }
+
+long-left : (s : tie.Start) → length (s .args .self .left) ≡ 128
+long-left s = search needs
+
+long-waiting : (s : tie.Start) → length (s .args .self .waiting) ≡ 128
+long-waiting s = search needs
 
 -- places from N on are zero
-past-by : (c : tie.Start) (v : ℕ) → c .args .g .n ≤ v → leftOf (c .args .self) v ≡ 0
-past-by c = let long : length (c .args .self .left) ≡ 128 = search needs in nothing-left (c .args .g) (c .args .self) (passed (c .args .g) (c .args .self) (c .pre .1)) long
+past-by : (s : tie.Start) (g : Graph) → Suited s g → (v : ℕ) → g .n ≤ v → leftOf (s .args .self) v ≡ 0
+past-by s g S = nothing-past g (s .args .self) (S .lent .accepted) (S .suited) (long-left s)
 
 -- the run is finished where the set of those with ticks left is empty
-over-by : (c : tie.After-is-empty) → over (c .before .before .before .before .args .g) (c .before .before .before .before .args .self) ≡ c .is-empty .result
-over-by c =
-    let s = c .before .before .before .before in
-    over-is (s .args .g) (s .pre .0) (s .args .self) (past-by s) (isIn (c .before .busy .result)) (c .before .busy .ensures .are) ∙ sym (c .is-empty .ensures)
+over-by : (c : tie.After-is-empty) (g : Graph) → let s = c .before .before .before .before .before in Suited s g → over g (s .args .self) ≡ c .is-empty .result
+over-by c g S =
+    let s = c .before .before .before .before .before in
+    over-is g (S .lent .accepted) (s .args .self) (past-by s g S) (isIn (c .before .busy .result)) (c .before .busy .ensures .are) ∙ sym (c .is-empty .ensures)
 
-on-by : (c : tie.After-chosen) (v : ℕ) → isIn (c .chosen .result) v ≡ chosen (asModel (c .before .before .before .before .before .before .before .before .before .before .before .before .before .before .args .g)) (stateOf (c .before .before .before .before .before .before .before .before .before .before .before .before .before .before .args .self)) v
-on-by c =
-    let s = c .before .before .before .before .before .before .before .before .before .before .before .before .before .before in
-    let b = c .before .before .before .before .before .before .before .before .before .before .before .busy in
-    let h = c .before .before .before .before .before .before .before .before .behind in
-    let a = c .before .before .before .before .before .before .before .minus in
-    let w = c .before .before .before .of-kinds in
-    on-is (s .args .g) (s .pre .0) (s .args .self) (past-by s) (isIn (b .result)) (b .ensures .are) (isIn (h .result)) (h .ensures .are) (isIn (a .result)) (a .ensures .are) (w .result) (w .ensures) (isIn (c .chosen .result)) (c .chosen .ensures .are)
+-- the numbers tell who stands behind another
+settled-by : (c : tie.After-held) (g : Graph) → let b = c .before .before .before in let s = b .before .before .before .before in
+    Suited s g → Settled (g .edge) (g .edges) (s .args .self .waiting) (isIn (b .busy .result)) (c .held .result)
+settled-by c g S =
+    let b = c .before .before .before in
+    let s = b .before .before .before .before in
+    suits-settled g (s .args .self) (S .lent .accepted) (isIn (b .busy .result)) (b .busy .ensures .are) (c .held .result) (c .held .ensures) (long-waiting s) (S .suited)
 
-runs-by : (c : tie.After-chosen) (v : ℕ) → isIn (c .chosen .result) v ≡ true → (v < c .before .before .before .before .before .before .before .before .before .before .before .before .before .before .args .g .n) × (1 ≤ leftOf (c .before .before .before .before .before .before .before .before .before .before .before .before .before .before .args .self) v)
-runs-by c =
-    let s = c .before .before .before .before .before .before .before .before .before .before .before .before .before .before in
-    let b = c .before .before .before .before .before .before .before .before .before .before .before .busy in
-    let h = c .before .before .before .before .before .before .before .before .behind in
-    let a = c .before .before .before .before .before .before .before .minus in
-    let w = c .before .before .before .of-kinds in
-    on-runs (s .args .g) (s .pre .0) (s .args .self) (past-by s) (isIn (b .result)) (b .ensures .are) (isIn (h .result)) (h .ensures .are) (isIn (a .result)) (a .ensures .are) (w .result) (w .ensures) (isIn (c .chosen .result)) (c .chosen .ensures .are)
+-- what is chosen, by the graph's own kinds and cores
+on-by : (c : tie.After-chosen) (g : Graph) → let a = c .before in let s = a .before .before .before .before .before .before .before .before in
+    Suited s g → (v : ℕ) → isIn (c .chosen .result) v ≡ chosenBy (g .kinds) (g .cores) (now (s .args .words)) (isIn (a .minus .result)) (isIn (s .args .self .ran)) v
+on-by c g S v =
+    let a = c .before in
+    let s = a .before .before .before .before .before .before .before .before in
+    c .chosen .ensures .are v ∙ ap₂ (λ (k : ℕ) (l : List ℕ). chosenBy k l (now (s .args .words)) (isIn (a .minus .result)) (isIn (s .args .self .ran)) v) (S .lent .kinds-are) (S .lent .cores-are)
 
--- src/lib.rt:64:13
 busy-requires : tie.Need-busy-requires
 busy-requires c κs = search needs
 
--- src/lib.rt:65:12
 is-empty-requires : tie.Need-is-empty-requires
 is-empty-requires c κs = search needs
 
--- src/lib.rt:66:13
 returns : tie.Need-returns
 unfolding tickedOf
-returns c = rw (over-by (c .before) ∙ c .if1 .taken) refl
+returns c g L ok = rw (over-by (c .before) g (record { lent = L; suited = ok }) ∙ c .if1 .taken) refl
 
--- src/lib.rt:71:38
-behind-requires : tie.Need-behind-requires
-behind-requires c κs = search needs
+held-requires : tie.Need-held-requires
+held-requires c κs = search needs
 
--- src/lib.rt:71:13
 minus-requires : tie.Need-minus-requires
 minus-requires c κs = search needs
 
--- src/lib.rt:74:21
-of-kinds-requires : tie.Need-of-kinds-requires
-of-kinds-requires c κs = let s = c .before .before .before .before .before .before .before .before .before .before in (s .pre .0 .few-vertices, kinds-known (s .args .g) (s .pre .0))
-
--- src/lib.rt:75:13
 chosen-requires : tie.Need-chosen-requires
 unfolding stateOf
 chosen-requires c κs =
-    let s = c .before .before .before .before .before .before .before .before .before .before .before .before .before in
-    (s .pre .0 .few-kinds, few-go-on (s .args .g) (s .pre .0) (c .before .before .of-kinds .result) (c .before .before .of-kinds .ensures) (isIn (c .before .before .before .before .before .before .minus .result)) (stateOf (s .args .self)) (suits-sound (s .args .g) (s .args .self) (s .pre .0) (s .pre .1) .few-marked))
+    let s = c .before .before .before .before .before .before .before .before in
+    let g = s .pre .0 in
+    let L = s .pre .1 in
+    let A = L .accepted in
+    rw (L .kinds-are, L .cores-are)
+    (A .few-kinds, few-go-on g A (now (s .args .words)) (L .words-are) (isIn (c .minus .result)) (stateOf (s .args .self)) (suits-sound g (s .args .self) A (s .pre .2) .before .few-marked))
 
--- src/lib.rt:76:9
-advance-requires : tie.Need-advance-requires
+lower-requires : tie.Need-lower-requires
 unfolding leftOf
-advance-requires c κs =
-    let s = c .before .before .before .before .before .before .before .before .before .before .before .before .before .before in
-    let S = suits-sound (s .args .g) (s .args .self) (s .pre .0) (s .pre .1) in
-    (omega (arith, S .agrees, s .pre .0 .few-vertices), (omega (arith, S .in-time), ((λ v t. (rw (S .agrees) (runs-by c v t .0), omega (arith, runs-by c v t .1))), (λ v l. past-by s v (rw (← S .agrees) l)))))
+lower-requires c κs =
+    let o = c .before in
+    let h = o .before .before in
+    let b = h .before .before .before in
+    let s = b .before .before .before .before in
+    let g = s .pre .0 in
+    let S = some s in (
+      long-left s,
+      λ v t. on-runs g (S .lent .accepted) (s .args .self) (past-by s g S) (isIn (b .busy .result)) (b .busy .ensures .are) (s .args .self .waiting) (h .held .result) (settled-by h g S)
+          (isIn (o .before .minus .result)) (o .before .minus .ensures .are) (now (s .args .words)) (S .lent .words-are) (isIn (o .chosen .result)) (on-by o g S) v t .1,
+    )
 
--- src/lib.rt:57:5
+minus-requires-2 : tie.Need-minus-requires-2
+minus-requires-2 c κs = search needs
+
+settle-requires : tie.Need-settle-requires
+settle-requires c κs =
+    let m = c .before in
+    let l = m .before .before in
+    let o = l .before .before in
+    let h = o .before .before in
+    let b = h .before .before .before in
+    let s = b .before .before .before .before in
+    let g = s .pre .0 in
+    let S = some s in
+    let A = S .lent .accepted in
+    rw (S .lent .edges-are, S .lent .starts-are, edges-counted g A) (
+      layout g A,
+      unsettled g A (s .args .self) (past-by s g S) (isIn (b .busy .result)) (b .busy .ensures .are) (s .args .self .waiting) (h .held .result) (settled-by h g S)
+          (isIn (o .before .minus .result)) (o .before .minus .ensures .are) (now (s .args .words)) (S .lent .words-are) (isIn (o .chosen .result)) (on-by o g S)
+          1 (l .lower .last .0) (isIn (l .lower .result .over)) (isIn (m .minus2 .result)) (l .lower .ensures .0) (l .lower .ensures .1 .0 .are) (m .minus2 .ensures .are),
+    )
+
+minus-requires-3 : tie.Need-minus-requires-3
+minus-requires-3 c κs = search needs
+
+add-self : tie.Need-add-self
+add-self c =
+    let s = c .before .before .before .before .before .before .before .before .before .before .before .before .before .before .before .before .before in
+    omega (arith, suits-sound (s .pre .0) (s .args .self) (s .pre .1 .accepted) (s .pre .2) .before .in-time)
+
 returns-2 : tie.Need-returns-2
 unfolding tickedOf
-returns-2 c =
-    let s = c .before .before .before .before .before .before .before .before .before .before .before .before .before .before .before in
-    rw (over-by (c .before .before .before .before .before .before .before .before .before .before .before) ∙ c .before .before .before .before .before .before .before .before .before .before .if1 .left, c .advance .ensures)
-    (ap {B = Ticked} (λ (x : State). record { report = Moved; run = recordOf (s .args .self .n) (s .args .self .instant + 1) x })
-    (after-leap (asModel (s .args .g)) 1 (stateOf (s .args .self)) (isIn (c .before .chosen .result)) (on-by (c .before))))
+returns-2 c g L ok =
+    let t = c .before .before in
+    let m = t .before .before in
+    let l = m .before .before in
+    let o = l .before .before in
+    let h = o .before .before in
+    let e = h .before .before in
+    let b = e .before in
+    let s = b .before .before .before .before in
+    let S : Suited s g = record { lent = L; suited = ok } in
+    let A = L .accepted in
+    rw (over-by e g S ∙ h .before .if1 .left)
+    (ap {B = Ticked} (λ (x : Run). record { report = Moved; run = x })
+    (moves g A (s .args .self) (past-by s g S) (isIn (b .busy .result)) (b .busy .ensures .are) (s .args .self .waiting) (h .held .result) (settled-by h g S)
+    (isIn (o .before .minus .result)) (o .before .minus .ensures .are) (now (s .args .words)) (L .words-are) (isIn (o .chosen .result)) (on-by o g S)
+    1 (l .lower .last .0) (isIn (l .lower .result .over)) (isIn (m .minus2 .result)) (l .lower .ensures .0) (l .lower .ensures .1 .0 .are) (m .minus2 .ensures .are)
+    (suits-sound g (s .args .self) A ok .before .agrees) (c .before .minus3 .result) (t .settle .result) (t .settle .last .1 .1 .0) (c .before .minus3 .ensures)
+    (rw (L .edges-are, L .starts-are, edges-counted g A) at (t .settle .ensures))))
 
 pub tick-spec : {M : Type 1} → statement M
 tick-spec =
@@ -110,9 +160,12 @@ tick-spec =
     busy-requires
     is-empty-requires
     returns
-    behind-requires
+    held-requires
     minus-requires
-    of-kinds-requires
     chosen-requires
-    advance-requires
+    lower-requires
+    minus-requires-2
+    settle-requires
+    minus-requires-3
+    add-self
     returns-2)
