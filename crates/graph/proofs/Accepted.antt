@@ -118,11 +118,11 @@ module _ (s : List ℕ) (bytes : (i : ℕ) → getD s i 0 < 256) (quiet : (num :
   unfolding graphOf keys
   key-at i l = padded-at 1024 (keys s (many s 0 + many s 1)) (many s 2) i l
 
-  from-at : (i : ℕ) → i < many s 2 → from (graphOf s) i ≡ byteAt s (many s 0 + many s 1 + i) 1
+  pub from-at : (i : ℕ) → i < many s 2 → from (graphOf s) i ≡ byteAt s (many s 0 + many s 1 + i) 1
   unfolding from keyAt
   from-at i l = rw (key-at i l) (omega (arith, bytes (8 * (many s 0 + many s 1 + i) + 2)))
 
-  to-at : (i : ℕ) → i < many s 2 → to (graphOf s) i ≡ byteAt s (many s 0 + many s 1 + i) 2
+  pub to-at : (i : ℕ) → i < many s 2 → to (graphOf s) i ≡ byteAt s (many s 0 + many s 1 + i) 2
   unfolding to keyAt
   to-at i l = rw (key-at i l) (omega (arith, bytes (8 * (many s 0 + many s 1 + i) + 2)))
 

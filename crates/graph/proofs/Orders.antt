@@ -50,7 +50,7 @@ two-orders s k = go (eqb (byteAt s k 0) 0x54) (eqb (byteAt s k 0) 0x56) (eqb (by
     go false false true = refl
     go false false false = refl
 
-order-below : (s : List ℕ) (k : ℕ) → order s k < 4
+pub order-below : (s : List ℕ) (k : ℕ) → order s k < 4
 unfolding order
 order-below s k = go (eqb (byteAt s k 0) 0x54) (eqb (byteAt s k 0) 0x56) (eqb (byteAt s k 0) 0x45)
   where
@@ -61,7 +61,7 @@ order-below s k = go (eqb (byteAt s k 0) 0x54) (eqb (byteAt s k 0) 0x56) (eqb (b
     go false false false = lit< tt
 
 module _ (s : List ℕ) (sorted : (k : ℕ) → k < records s → rule3 s k ≡ false) where
-  rising : (k : ℕ) → suc k < records s → order s k ≤ order s (suc k)
+  pub rising : (k : ℕ) → suc k < records s → order s k ≤ order s (suc k)
   unfolding rule3
   rising k l =
       ltb-false (order s (suc k)) (order s k) (any-false (λ j. ltb (order s (suc k)) (order s j)) (suc k) k (omega arith) (sorted (suc k) l))

@@ -20,8 +20,9 @@ use Rattle.paths.specs.Ahead.{Weighed}
 use Rattle.graph.specs.Model.{asModel}
 use Rattle.choice.specs.Choice.{ofKind, setAt, OfKinds}
 use Rattle.summary.proofs.Along.{well-formed}
-use Rattle.parallel.specs.Rows.{rowOf, wordsOf, Table, Holds, above, below, beside}
-use Rattle.parallel.proofs.Tables.{put-table, in-same, in-other}
+use Rattle.sets.specs.Sets.{rowOf, wordsOf, Table, Holds}
+use Rattle.parallel.specs.Rows.{above, below, beside}
+use Rattle.sets.proofs.Tables.{put-table, in-same, in-other}
 
 -- a vertex of the same kind, apart from those above, those below and v itself
 apart-beside : (a k x y q : Bool) → (a && k) && not (((true && x) || (true && y)) || q) ≡ true && (a && ((k && not q) && (not x && not y)))

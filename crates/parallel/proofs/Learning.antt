@@ -21,8 +21,9 @@ use Rattle.vset.specs.declared.Vset.{Vset}
 use Rattle.vset.specs.Members.{isIn, Members}
 use Rattle.summary.specs.Row.{many, goesTo}
 use Rattle.summary.proofs.Along.{well-formed, few, vertex, place, place-below, place-at, vertex-at, goes-joins, joins-goes, rises}
-use Rattle.parallel.specs.Rows.{rowOf, empty, Table, Holds, Told, above}
-use Rattle.parallel.proofs.Tables.{empty-table, empty-in}
+use Rattle.sets.specs.Sets.{rowOf, empty, Table, Holds}
+use Rattle.parallel.specs.Rows.{Told, above}
+use Rattle.sets.proofs.Tables.{empty-table, empty-in}
 
 module _ {g : Graph} {e st o : List ℕ} {n : ℕ} (T : Weighed g e st o n []) where
   -- u is p or an ancestor of it

@@ -1,5 +1,4 @@
--- Tables of rows; the ancestors, told along the order; the descendants, gathered against it; and what is neither:
-pub mod Tables
+-- The ancestors, told along the order; the descendants, gathered against it; and what is neither:
 pub mod Telling
 pub mod Learning
 pub mod Reaching

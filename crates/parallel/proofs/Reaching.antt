@@ -24,8 +24,9 @@ use Rattle.vset.specs.Members.{isIn, Members}
 use Rattle.vset.proofs.Gather.{members-ext}
 use Rattle.summary.specs.Row.{many, nth}
 use Rattle.summary.proofs.Along.{well-formed, few, vertex, place, place-below, place-at, vertex-at, nth-joins, nth-of, rises}
-use Rattle.parallel.specs.Rows.{rowOf, wordsOf, empty, Table, Holds, below, reachedBy}
-use Rattle.parallel.proofs.Tables.{put-table, in-same, in-other, empty-table, empty-in}
+use Rattle.sets.specs.Sets.{rowOf, wordsOf, empty, Table, Holds}
+use Rattle.parallel.specs.Rows.{below, reachedBy}
+use Rattle.sets.proofs.Tables.{put-table, in-same, in-other, empty-table, empty-in}
 
 -- one edge more, to x: s is x and its row
 pub reached-more : (e st : List ℕ) (t : List (List ℕ)) (u k x : ℕ) (got s r : Vset) → x ≡ nth e st u k → Members got (reachedBy e st t u k)

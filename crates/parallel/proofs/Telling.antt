@@ -10,8 +10,9 @@ use Rattle.vset.specs.declared.Vset.{Vset}
 use Rattle.vset.specs.Members.{isIn, Members}
 use Rattle.summary.specs.Row.{nth, goesTo}
 use Rattle.summary.proofs.Rows.{goes-here, goes-other}
-use Rattle.parallel.specs.Rows.{rowOf, wordsOf, Table, Told}
-use Rattle.parallel.proofs.Tables.{put-table, in-same, in-other}
+use Rattle.sets.specs.Sets.{rowOf, wordsOf, Table}
+use Rattle.parallel.specs.Rows.{Told}
+use Rattle.sets.proofs.Tables.{put-table, in-same, in-other}
 
 -- a set that was learnt is not learnt again
 once : (a b c : Bool) → (a || (b && c)) || c ≡ a || (true && c)

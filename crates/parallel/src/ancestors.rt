@@ -5,9 +5,10 @@ ghost use Rattle.graph.specs.declared.Graph.{Graph};
 ghost use Rattle.graph.specs.Model.{asModel};
 ghost use Rattle.paths.specs.Ahead.{Weighed};
 ghost use Rattle.summary.specs.Row.{many, Row};
-ghost use Rattle.parallel.specs.Rows.{Table, Holds, Told, above};
-use crate::row::put;
-use crate::row::row;
+ghost use Rattle.sets.specs.Sets.{Table, Holds};
+ghost use Rattle.parallel.specs.Rows.{Told, above};
+use sets::put;
+use sets::row;
 use vset::Vset;
 
 // The vertices that u has an edge to learn of the set s.

@@ -7,9 +7,10 @@ ghost use Rattle.graph.specs.Model.{asModel};
 ghost use Rattle.paths.specs.Ahead.{Weighed};
 ghost use Rattle.vset.specs.Members.{Members};
 ghost use Rattle.summary.specs.Row.{many, Row};
-ghost use Rattle.parallel.specs.Rows.{empty, Holds, below, reachedBy};
-use crate::row::put;
-use crate::row::row;
+ghost use Rattle.sets.specs.Sets.{empty, Holds};
+ghost use Rattle.parallel.specs.Rows.{below, reachedBy};
+use sets::put;
+use sets::row;
 use vset::Vset;
 
 // The vertices that u has an edge to, and their descendants.

@@ -8,16 +8,16 @@ ghost use Rattle.graph.specs.declared.Graph.{Graph};
 ghost use Rattle.graph.specs.Model.{asModel};
 ghost use Rattle.vset.specs.Members.{isIn, Members};
 ghost use Rattle.paths.specs.Ahead.{Weighed};
-ghost use Rattle.parallel.specs.Rows.{empty, Holds, beside};
+ghost use Rattle.sets.specs.Sets.{empty, Holds};
+ghost use Rattle.parallel.specs.Rows.{beside};
 use ancestors::ancestors;
 use descendants::descendants;
-use row::put;
-use row::row;
+use sets::put;
+use sets::row;
 use vset::Vset;
 
 mod ancestors; // ancestors.rt: each vertex's ancestors
 mod descendants; // descendants.rt: each vertex's descendants
-pub mod row; // row.rt: a row of a table
 
 // Of the vertices of one kind those that are not v itself, nor above it, nor below it.
 fn apart(same: Vset, above: Vset, below: Vset, v: usize) -> Vset

@@ -26,7 +26,8 @@ use Rattle.reader.specs.Laid.{graphIn, Usable}
 use Rattle.reader.specs.declared.Header.{Header}
 use Rattle.paths.specs.Ahead.{Weighed}
 use Rattle.ways.specs.Counts.{Counts}
-use Rattle.parallel.specs.Rows.{Holds, beside}
+use Rattle.sets.specs.Sets.{Holds}
+use Rattle.parallel.specs.Rows.{beside}
 use Rattle.visit.specs.Cells.{Ground, Laid, Sources}
 use Rattle.second.specs.Shares.{shareBy}
 

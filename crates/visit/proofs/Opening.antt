@@ -35,7 +35,8 @@ use Rattle.summary.proofs.Along.{nth-joins, row}
 use Rattle.ways.specs.Counts.{fromSource}
 use Rattle.ways.proofs.Counting.{counts-few}
 use Rattle.ways.proofs.Rows.{row-part, row-whole, row-sink}
-use Rattle.parallel.specs.Rows.{rowOf, beside}
+use Rattle.sets.specs.Sets.{rowOf}
+use Rattle.parallel.specs.Rows.{beside}
 use Rattle.visit.specs.declared.cell.Cell.{Cell}
 use Rattle.visit.specs.declared.choose.Step.{Step}
 use Rattle.visit.specs.Cells.{Ground, Laid, Sources, Open, Stands, totalOf, Opened, Chosen, Begun}

@@ -38,7 +38,8 @@ use Rattle.vset.specs.Members.{isIn, Members}
 use Rattle.paths.specs.Ahead.{Weighed}
 use Rattle.summary.specs.Row.{many, nth}
 use Rattle.ways.specs.Counts.{Counts, fromSource}
-use Rattle.parallel.specs.Rows.{rowOf, Holds, beside}
+use Rattle.sets.specs.Sets.{rowOf, Holds}
+use Rattle.parallel.specs.Rows.{beside}
 use Rattle.visit.specs.declared.cell.Cell.{Cell}
 use Rattle.visit.specs.declared.choose.Step.{Step}
 

@@ -40,7 +40,7 @@ pub(crate) fn opened(
     requires { ⌜ value ≤ 18000000000000000000 ⌝ }
     ensures { λ r. ⌜ Opened (now (rows .entry)) (now (kind .entry)) (now (wcet .entry)) (now (share .entry)) v base beside value r ⌝ }
 {
-    let row = parallel::row::row(rows, v);
+    let row = sets::row(rows, v);
     let fresh = ticks(wcet, vset::minus(row, beside));
     let own = wcet[v] as u64 * 720720;
     let rate = share[kind[v] as usize];

@@ -11,7 +11,7 @@ use Rattle.vset.specs.declared.Vset.{Vset}
 use Rattle.vset.specs.Members.{isIn, Members, num}
 use Rattle.vset.proofs.Digits.{has-zero}
 use Rattle.vset.proofs.Same.{same-set}
-use Rattle.parallel.specs.Rows.{rowOf, wordsOf, empty, Table, Holds}
+use Rattle.sets.specs.Sets.{rowOf, wordsOf, empty, Table, Holds}
 
 -- ---- one row is put
 

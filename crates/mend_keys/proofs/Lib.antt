@@ -1,0 +1,3 @@
+pub mod KeySets
+-- What each public contract leaves open: nothing.
+pub mod Outcomes

@@ -1,0 +1,4 @@
+pub mod Tables
+pub mod Joining
+-- One outcome:
+pub mod Outcomes
