@@ -1,4 +1,4 @@
-/* The planner's work in plain C, to be timed beside the proved one: no proofs, arrays on the stack, the refusals 1 to 22. */
+/* The planner's work in plain C, to be timed beside the proved one: no proofs, arrays on the stack, the refusals 1 to 24. */
 #ifndef PLAIN_H
 #define PLAIN_H
 
@@ -72,5 +72,8 @@ struct plain_second plain_second(const uint8_t *file, size_t length);
 struct plain_late plain_late(const uint8_t *file, size_t length, const uint32_t *times, size_t count, uint32_t d);
 struct plain_finish plain_replay(const uint8_t *file, size_t length, const uint8_t *log, size_t log_length, uint32_t *times, size_t room);
 struct plain_count plain_log(const uint8_t *file, size_t length, const uint32_t *times, size_t count, uint8_t *log, size_t room);
+struct plain_count plain_stg_read(const uint8_t *text, size_t length, const uint8_t *cores, size_t kinds, const uint8_t *kind, size_t count, uint8_t *out,
+                                  size_t room);
+struct plain_count plain_stg_write(const uint8_t *file, size_t length, uint8_t *out, size_t room);
 
 #endif

@@ -49,6 +49,11 @@
 #define PLANNER_LONGEST_LOG 65536
 #define PLANNER_LONGEST_RUN_LOG 2048
 
+/* Of a text in the layout of the Standard Task Graph Set, in bytes: what is longer is refused. What is written has 126 tasks and 1,024 edges at
+   most, and so no more bytes than this. */
+#define PLANNER_LONGEST_STG 65536
+#define PLANNER_LONGEST_WRITTEN_STG 5759
+
 /* The stack that a call needs, in bytes, with its answer and what it is handed by value: no call needs more than 16,384. Measured over the
    requests of tests/, which reach every limit and every refusal, and rounded up to pages of 4,096 bytes with 512 to spare at the least: no
    theorem bounds it, and docs/STACK.md has the measures. What a signal handler needs comes on top, and what the system's loader needs where
@@ -67,6 +72,8 @@
 #define PLANNER_STACK_LATE 12288
 #define PLANNER_STACK_REPLAY 12288
 #define PLANNER_STACK_LOG 12288
+#define PLANNER_STACK_STG_READ 20480
+#define PLANNER_STACK_STG_WRITE 12288
 
 #ifdef __cplusplus
 #define PLANNER_SIZE(type, size) static_assert(sizeof(type) == (size), "the library lays " #type " out otherwise")
@@ -240,6 +247,24 @@ PlannerFinish planner_replay(const uint8_t *file, size_t file_length, const uint
    each vertex that takes time, which starts once and stops once. Replayed, it gives these times and the run's finish. Refuses with 1 to 11,
    then 13, then 14, as a start does, then 15 (`log` is shorter than the log). */
 PlannerCount planner_log(const uint8_t *file, size_t file_length, const uint32_t *times, size_t times_length, uint8_t *log, size_t log_length);
+
+/* Reads a text in the layout of the Standard Task Graph Set and writes its graph's file into `out`; `count` is the file's length. The text has
+   the number of tasks n, 1 to 126, alone in a line; then n + 2 lines, of task 0, which is the entry, to task n + 1, which is the exit, each with
+   the task's number, its time, how many predecessors it has, and these; then any number of lines that are skipped, whose first byte that is no
+   blank or tab is `#`. Fields are parted by blanks or tabs, which may also stand at either end of a line, and every line ends with a line feed.
+   Numbers are decimal, of one to ten digits; entry and exit have time 0. Takes the cores of each type and the type of each task, with the
+   entry's and the exit's: a task is the vertex of its number. Refuses with 23 (the text is not laid out so, or has a predecessor twice or one
+   above n + 1; the place is the first line at fault or missing, counted from 0, and 0 where the text is longer than 65,536 bytes), then 13
+   (not a type for each of the n + 2 tasks), then 4 to 11, with the places that the records would have had (7 for a time above the limit, 9 for
+   a task that is its own predecessor; 6 and 10 never), then 15 (`out` is shorter than the file). */
+PlannerCount planner_stg_read(const uint8_t *text, size_t text_length, const uint8_t *cores, size_t cores_length, const uint8_t *kinds,
+                              size_t kinds_length, uint8_t *out, size_t out_length);
+
+/* Writes such a text of a file's graph into `out`, with one blank between fields, predecessors upwards, no zeros in front and nothing skipped;
+   `count` is its length. Read with the file's own cores and types it gives the file again. Refuses with 1 to 11, then 24 at 0 (the graph has
+   fewer than three vertices, another source than the first vertex, another sink than the last, or one of these has a WCET above 0), then 15
+   (`out` is shorter than the text). */
+PlannerCount planner_stg_write(const uint8_t *file, size_t file_length, uint8_t *out, size_t out_length);
 
 #ifdef __cplusplus
 }

@@ -380,6 +380,28 @@ static void letter_o(void)
     bytes(log.at, log.length);
 }
 
+static void letter_u(void)
+{
+    struct list stg = take_list(1), cores = take_list(1), kinds = take_list(1), out = take_room(1);
+    if (!all_taken())
+        return;
+    PlannerCount a = planner_stg_read(stg.at, stg.length, cores.at, cores.length, kinds.at, kinds.length, out.at, out.length);
+    counted(a.number, a.place, "read", a.count);
+    text(" :");
+    bytes(out.at, out.length);
+}
+
+static void letter_v(void)
+{
+    struct list file = take_list(1), out = take_room(1);
+    if (!all_taken())
+        return;
+    PlannerCount a = planner_stg_write(file.at, file.length, out.at, out.length);
+    counted(a.number, a.place, "text", a.count);
+    text(" :");
+    bytes(out.at, out.length);
+}
+
 static struct letter {
     char letter;
     void (*answer)(void);
@@ -401,6 +423,8 @@ static struct letter {
     {'D', letter_d, "planner_late", PLANNER_STACK_LATE, 0},
     {'L', letter_l, "planner_replay", PLANNER_STACK_REPLAY, 0},
     {'O', letter_o, "planner_log", PLANNER_STACK_LOG, 0},
+    {'U', letter_u, "planner_stg_read", PLANNER_STACK_STG_READ, 0},
+    {'V', letter_v, "planner_stg_write", PLANNER_STACK_STG_WRITE, 0},
 };
 enum { LETTERS = sizeof letters / sizeof letters[0] };
 

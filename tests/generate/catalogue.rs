@@ -8,6 +8,7 @@ use super::logs::{conserving, cut, MOST_RECORDS};
 use super::numbers;
 use super::random::Random;
 use super::request::{self, Request, LARGEST_ROOM, LONGEST_PAYLOAD};
+use super::texts;
 use super::ways;
 use crate::reference::graph::{Graph, LONGEST_FILE, MOST_VERTICES, MOST_WCET, RECORD};
 use crate::reference::log::{bytes_of, events_of_run, START, STOP};
@@ -37,6 +38,7 @@ pub fn catalogue() -> Vec<Request> {
     requests.extend(logs_one_step_away());
     requests.extend(logs_at_the_limits());
     requests.extend(logs_of_small_runs());
+    requests.extend(texts::catalogue());
     for file in numbers_of_paths().iter().map(file_of) {
         requests.extend([request::bounds(&file), request::second(&file)]);
     }
@@ -303,6 +305,8 @@ fn questions_of(file: &[u8]) -> Vec<Request> {
         request::replay(file, &[0; 7], 0),
         request::log(file, &times, 0),
         request::log(file, &[], 0),
+        request::stg_write(file, 0),
+        request::stg_write(file, 6_000),
     ]
 }
 

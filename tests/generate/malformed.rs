@@ -6,12 +6,12 @@ use super::request::{Request, LARGEST_ROOM, LONGEST_PAYLOAD};
 /// A good request made bad, or, now and then, left good by chance.
 pub fn spoilt(random: &mut Random, mut request: Request) -> Request {
     match random.below(9) {
-        0 => request.letter = random.pick(b"CEZrwbpstixgandlo\0\n\xFF"),
+        0 => request.letter = random.pick(b"CEZrwbpstixgandlouv\0\n\xFF"),
         1 => request.payload.truncate(random.between(0, request.payload.len())),
         2 => drop(request.payload.pop()),
         3 => request.payload.push(random.byte()),
         4 => change_list_length(random, &mut request.payload),
-        5 => request.letter = random.pick(b"RWBPSTIXGANDLO"),
+        5 => request.letter = random.pick(b"RWBPSTIXGANDLOUV"),
         6 => set_room(random, &mut request.payload),
         7 => request = odd_list(random),
         _ => lengthen(random, &mut request.payload),
@@ -29,7 +29,7 @@ fn change_list_length(random: &mut Random, payload: &mut [u8]) {
     }
 }
 
-/// The last 8 bytes are the room in W, P, X, G, A, L and O, and the tick in D.
+/// The last 8 bytes are the room in W, P, X, G, A, L, O, U and V, and the tick in D.
 fn set_room(random: &mut Random, payload: &mut [u8]) {
     if payload.len() >= 8 {
         let most = LARGEST_ROOM as u64;

@@ -14,6 +14,8 @@
 //!   conserving work-conserving schedules that need not be list schedules
 //!   frames     the recorded frames of docs/orders/07.md
 //!   logs       logs of frames, good and with a fault planted for each number that says no
+//!   stg        Standard Task Graph texts, good and with a fault planted for each number that says no
+//!   texts      the texts of docs/orders/09.md, and every limit of a text
 //!   request    how a request travels
 //!   catalogue  the worked cases and every limit, the same for each seed
 //!   malformed  requests that are none
@@ -35,5 +37,7 @@ pub mod numbers;
 pub mod random;
 pub mod request;
 pub mod runs;
+pub mod stg;
 pub mod stream;
+pub mod texts;
 pub mod ways;

@@ -100,6 +100,14 @@ pub fn log(file: &[u8], times: &[u32], room: usize) -> Request {
     Request::of(b'O').list(file).list(&words(times)).number(room as u64)
 }
 
+pub fn stg_read(text: &[u8], cores: &[u8], kinds: &[u8], room: usize) -> Request {
+    Request::of(b'U').list(text).list(cores).list(kinds).number(room as u64)
+}
+
+pub fn stg_write(file: &[u8], room: usize) -> Request {
+    Request::of(b'V').list(file).number(room as u64)
+}
+
 fn words(list: &[u32]) -> Vec<u8> {
     list.iter().flat_map(|w| w.to_le_bytes()).collect()
 }

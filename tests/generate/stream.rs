@@ -13,8 +13,10 @@ use super::malformed::spoilt;
 use super::random::Random;
 use super::request::{self, Request, LARGEST_ROOM};
 use super::runs::{any_times, damaged, misnumbered, reached, times, unreached};
+use super::stg;
 use super::ways;
-use crate::reference::graph::{Graph, MOST_VERTICES, MOST_WCET, RECORD};
+use crate::reference::graph::{Graph, LONGEST_FILE, MOST_VERTICES, MOST_WCET, RECORD};
+use crate::reference::stg::{stg_read, stg_write};
 use crate::reference::writer::{file_of, Lists};
 
 pub struct Stream {
@@ -36,7 +38,7 @@ impl Stream {
 }
 
 fn any_request(random: &mut Random) -> Request {
-    let request = match random.below(48) {
+    let request = match random.below(56) {
         0..=3 => request::read(&any_file(random, 3).1),
         4..=5 => any_write(random),
         6..=7 => request::bounds(&any_file(random, 8).1),
@@ -49,7 +51,9 @@ fn any_request(random: &mut Random) -> Request {
         32..=35 => any_second(random),
         36..=39 => any_late(random),
         40..=43 => any_replay(random),
-        _ => any_log(random),
+        44..=47 => any_log(random),
+        48..=51 => any_stg_read(random),
+        _ => any_stg_write(random),
     };
     if random.one_in(20) {
         spoilt(random, request)
@@ -207,6 +211,27 @@ fn any_log(random: &mut Random) -> Request {
     let needed = 2 * RECORD * times.iter().filter(|&&time| time > 0).count();
     let room = if random.one_in(3) { any_room(random, needed) } else { needed + random.pick(&[0, 0, 1, 8, 16, 50]) };
     request::log(&file, &times, room)
+}
+
+/// The room is about what the file needs, where the text has one.
+fn any_stg_read(random: &mut Random) -> Request {
+    let stg::Lent { text, cores, kinds } = stg::any(random);
+    let needed =
+        stg_read(&text, &cores, &kinds, LONGEST_FILE).map_or(RECORD * (cores.len() + kinds.len()), |file| file.len());
+    let room = if random.one_in(4) { any_room(random, needed) } else { needed + random.pick(&[0, 0, 1, 8, 16, 50]) };
+    request::stg_read(&text, &cores, &kinds, room.min(LARGEST_ROOM))
+}
+
+/// Half of the graphs have an entry and an exit.
+fn any_stg_write(random: &mut Random) -> Request {
+    let (graph, file) = match random.below(12) {
+        0..=5 => with_file(stg::framed(random)),
+        6..=8 => with_file(stg::without_entry_or_exit(random)),
+        _ => any_file(random, 2),
+    };
+    let needed = stg_write(&graph, LARGEST_ROOM).map_or(20, |text| text.len());
+    let room = if random.one_in(3) { any_room(random, needed) } else { needed + random.pick(&[0, 0, 1, 8, 16, 50]) };
+    request::stg_write(&file, room)
 }
 
 /// Every other graph is made to have a number of complete paths.

@@ -11,6 +11,7 @@ use crate::reference::refusal::Refusal;
 use crate::reference::replay::replay;
 use crate::reference::schedule::{run, start, tick, Ticked};
 use crate::reference::second::second;
+use crate::reference::stg::{stg_read, stg_write};
 use crate::reference::writer::{write, Lists};
 use std::fmt::Display;
 use std::io::{Read, Write};
@@ -39,6 +40,8 @@ pub fn answer(request: &Request) -> String {
         b'D' => answer_late(fields),
         b'L' => answer_replay(fields),
         b'O' => answer_log(fields),
+        b'U' => answer_stg_read(fields),
+        b'V' => answer_stg_write(fields),
         _ => None,
     };
     line.unwrap_or(BAD.to_string())
@@ -124,6 +127,18 @@ impl<'a> Fields<'a> {
         let (file, log, room) = (self.list()?, self.list()?, self.room()?);
         self.end()?;
         Some((file, log, room))
+    }
+
+    fn of_stg_read(mut self) -> Option<AskedText<'a>> {
+        let asked = AskedText { text: self.list()?, cores: self.list()?, kinds: self.list()?, room: self.room()? };
+        self.end()?;
+        Some(asked)
+    }
+
+    fn of_stg_write(mut self) -> Option<(&'a [u8], usize)> {
+        let (file, room) = (self.list()?, self.room()?);
+        self.end()?;
+        Some((file, room))
     }
 
     fn end(self) -> Option<()> {
@@ -264,6 +279,35 @@ fn answer_log(mut fields: Fields) -> Option<String> {
     fields.end()?;
     let outcome = read(file).and_then(|graph| log(&graph, &times, room));
     Some(lent("log", outcome.map(|log| (log.len(), log)), room, PRESET))
+}
+
+/// What a request to read a text asks about.
+pub struct AskedText<'a> {
+    pub text: &'a [u8],
+    pub cores: &'a [u8],
+    pub kinds: &'a [u8],
+    pub room: usize,
+}
+
+fn answer_stg_read(fields: Fields) -> Option<String> {
+    let asked = fields.of_stg_read()?;
+    let outcome = stg_read(asked.text, asked.cores, asked.kinds, asked.room);
+    Some(lent("read", outcome.map(|file| (file.len(), file)), asked.room, PRESET))
+}
+
+pub fn asked_stg_read(request: &Request) -> Option<AskedText<'_>> {
+    Fields(&request.payload).of_stg_read()
+}
+
+fn answer_stg_write(fields: Fields) -> Option<String> {
+    let (file, room) = fields.of_stg_write()?;
+    let outcome = read(file).and_then(|graph| stg_write(&graph, room));
+    Some(lent("text", outcome.map(|text| (text.len(), text)), room, PRESET))
+}
+
+/// What a request to write a text asks about: file and room.
+pub fn asked_stg_write(request: &Request) -> Option<(&[u8], usize)> {
+    Fields(&request.payload).of_stg_write()
 }
 
 fn told_gains(outcome: Result<Vec<u64>, Refusal>, room: usize) -> String {

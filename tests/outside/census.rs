@@ -1,6 +1,6 @@
 //! The reference alone: which answers its own requests get, and whether every one of them occurs.
 
-use crate::answer::{answer, answers, asked_late, asked_replay, asked_tick};
+use crate::answer::{answer, answers, asked_late, asked_replay, asked_stg_read, asked_stg_write, asked_tick};
 use crate::compare::cut_input;
 use crate::crosscheck;
 use crate::generate::request::Request;
@@ -13,11 +13,12 @@ use crate::reference::graph::Graph;
 use crate::reference::late::finish;
 use crate::reference::reader::read;
 use crate::reference::record::{RunRecord, CONDITIONS};
+use crate::texts::{self, Asked, Laid, TEXTS, WRITTEN};
 use std::collections::BTreeMap;
 
 /// What can be answered to each letter: 12 never. `-` is any request that isn't one. A 7 of A is the file's own; the two
 /// 7s of what is altered have words: `vertex` where the graph doesn't have it, `wcet` where the new one is above the limit.
-const POSSIBLE: [(char, &str, &[u32]); 15] = [
+const POSSIBLE: [(char, &str, &[u32]); 17] = [
     ('R', "graph", &[1, 2, 3, 4, 5, 6, 7, 8, 9, 10, 11]),
     ('W', "wrote", &[4, 5, 6, 7, 8, 9, 10, 11, 13, 15]),
     ('B', "old", &[1, 2, 3, 4, 5, 6, 7, 8, 9, 10, 11]),
@@ -32,11 +33,13 @@ const POSSIBLE: [(char, &str, &[u32]); 15] = [
     ('D', "yes no", &[1, 2, 3, 4, 5, 6, 7, 8, 9, 10, 11, 13, 14]),
     ('L', "replayed", &[1, 2, 3, 4, 5, 6, 7, 8, 9, 10, 11, 15, 18, 19, 20, 21, 22]),
     ('O', "log", &[1, 2, 3, 4, 5, 6, 7, 8, 9, 10, 11, 13, 14, 15]),
+    ('U', "read", &[4, 5, 7, 8, 9, 11, 13, 15, 23]),
+    ('V', "text", &[1, 2, 3, 4, 5, 6, 7, 8, 9, 10, 11, 15, 24]),
     ('-', "bad", &[]),
 ];
 
 /// The largest number that says no.
-const LAST_NUMBER: u32 = 22;
+const LAST_NUMBER: u32 = 24;
 
 /// The boards on which Mmax can be taken wrongly: each has to be asked for its bounds. A kind is idle where all vertices
 /// that have it have WCET 0.
@@ -84,6 +87,8 @@ pub fn own_requests(options: &Options) -> bool {
     let mut logs = [0; LOGS.len()];
     let mut unsuited = [0; CONDITIONS.len()];
     let mut records = [0; RECORDS.len()];
+    let (mut texts, mut written) = ([0; TEXTS.len()], [0; WRITTEN.len()]);
+    let mut lines: BTreeMap<String, u64> = texts::faults().into_iter().map(|fault| (fault, 0)).collect();
     for place in 0..options.count {
         let request = stream.request(place);
         let cell = cell(&request);
@@ -111,6 +116,18 @@ pub fn own_requests(options: &Options) -> bool {
                 RECORDS.iter().zip(&mut records).for_each(|((_, is), many)| *many += is(&numbered) as u64);
             }
         }
+        if cell.0 == 'U' {
+            let laid = Laid::of(asked_stg_read(&request).unwrap());
+            TEXTS.iter().zip(&mut texts).for_each(|((_, is), many)| *many += is(&laid) as u64);
+            laid.fault().into_iter().for_each(|fault| *lines.entry(fault).or_default() += 1);
+        }
+        if cell.0 == 'V' {
+            let (file, room) = asked_stg_write(&request).unwrap();
+            if let Ok(graph) = read(file) {
+                let asked = Asked::of(&graph, room);
+                WRITTEN.iter().zip(&mut written).for_each(|((_, is), many)| *many += is(&asked) as u64);
+            }
+        }
         *table.entry(cell).or_default() += 1;
     }
     print_table(&table);
@@ -120,6 +137,10 @@ pub fn own_requests(options: &Options) -> bool {
     faults.extend(never_asked("logs", &LOGS.map(|(name, _)| name), &logs));
     faults.extend(never_asked("16 for one thing alone", &CONDITIONS.map(|(name, _)| name), &unsuited));
     faults.extend(never_asked("numbers of unfinished predecessors", &RECORDS.map(|(name, _)| name), &records));
+    faults.extend(never_asked("texts", &TEXTS.map(|(name, _)| name), &texts));
+    let (names, counts): (Vec<&str>, Vec<u64>) = lines.iter().map(|(name, many)| (&name[..], *many)).unzip();
+    faults.extend(never_asked("lines at fault", &names, &counts));
+    faults.extend(never_asked("texts written", &WRITTEN.map(|(name, _)| name), &written));
     faults.extend(crosscheck::faults(options));
     if !(0..24).all(|place| answers(&cut_input(options.seed, place)).ends_with("bad request\n")) {
         faults.push("an input that ends inside a request must end with `bad request`".to_string());

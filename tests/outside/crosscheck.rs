@@ -1,8 +1,8 @@
 //! The reference against itself by second ways: all complete paths written out, bounds as fractions, ancestors by who
 //! stands before whom on these paths, gains by the paths without a vertex's time, alterations in the file's own bytes,
 //! runs tick by tick, stopped at any, unfinished predecessors by the finishes that lie ahead and by the paths, logs tick by
-//! tick and every schedule of three vertices, a planted fault for each number and each pair of them, and the values worked
-//! on paper.
+//! tick and every schedule of three vertices, texts byte by byte and there and back, a planted fault for each number and each
+//! pair of them, and the values worked on paper.
 
 use crate::by_ticks::{is_work_conserving, judged, log_of};
 use crate::compare::hex;
@@ -38,6 +38,7 @@ use crate::reference::schedule::{record_at, run, spans, start, tick, Ticked};
 use crate::reference::second::{second, values, Ways, MOST_PATHS};
 use crate::reference::sheet::sheet;
 use crate::reference::writer::{file_of, write, Lists};
+use crate::stg;
 
 /// OLD-B and NEW-B-1, which are equal there, and NEW-B-2, in ticks.
 const EXAMPLES: [(&[u8], u64, u64); 3] = [
@@ -63,6 +64,7 @@ pub fn faults(options: &Options) -> Vec<String> {
     faults.extend(logs_on_paper());
     faults.extend(numbers_on_paper());
     faults.extend(records_on_paper());
+    faults.extend(stg::faults(options));
     faults.extend(paths_counted());
     faults.extend(schedules_of_three());
     for place in 0..2_000 {

@@ -1,6 +1,7 @@
 //! The planner's tests from outside. `tests/run` calls this; `outside` by itself says how.
 
 mod answer;
+mod by_bytes;
 mod by_ticks;
 mod census;
 mod compare;
@@ -16,6 +17,8 @@ mod recorded;
 mod reference;
 mod schedules;
 mod sheets;
+mod stg;
+mod texts;
 
 use options::{Mode, Options};
 use std::process::ExitCode;

@@ -17,6 +17,7 @@
 //!   late      whether a run ends by a tick, and the ticks played to tell
 //!   log       what the log of a frame says, and the log of a list schedule
 //!   replay    which logs are work-conserving schedules (18 to 22)
+//!   stg       Standard Task Graph text, read (23) and written (24)
 //!   sheet     the program's text
 
 pub mod bounds;
@@ -33,4 +34,5 @@ pub mod replay;
 pub mod schedule;
 pub mod second;
 pub mod sheet;
+pub mod stg;
 pub mod writer;

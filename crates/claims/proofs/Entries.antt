@@ -30,6 +30,7 @@ use Rattle.late.specs.declared.Lateness.{Lateness}
 use Rattle.replay.specs.Answers.{replayOf, timesAfter}
 use Rattle.replay.specs.declared.Replayed.{Replayed}
 use Rattle.logs.specs.Answers.{loggedOf, logRoom}
+use Rattle.stg_text.specs.Answers.{readStgOf, readRoom, writeStgOf, writeRoom}
 use Rattle.codes.specs.CodedRun.{codedStart, codedReport, codedTick, codedPlay, codedReplay, LateCoded}
 use Rattle.codes.specs.declared.PlannerGraph.{PlannerGraph}
 use Rattle.codes.specs.declared.PlannerCount.{PlannerCount}
@@ -40,7 +41,7 @@ use Rattle.codes.specs.declared.PlannerMoved.{PlannerMoved}
 use Rattle.codes.specs.declared.PlannerTick.{PlannerTick}
 use Rattle.codes.specs.declared.PlannerFinish.{PlannerFinish}
 use Rattle.codes.specs.declared.PlannerLate.{PlannerLate}
-use Rattle.claims.specs.Entries.{ReadGives, WriteGives, BoundsGives, SecondGives, PathGives, GainsGives, AlteredGives, StartGives, TickGives, TickInPlaceGives, RunGives, LateGives, ReplayGives, LogGives, PlannerReadGives, PlannerWriteGives, PlannerBoundsGives, PlannerSecondGives, PlannerPathGives, PlannerGainsGives, PlannerAlteredGives, PlannerStartGives, PlannerTickGives, PlannerTickInPlaceGives, PlannerRunGives, PlannerLateGives, PlannerReplayGives, PlannerLogGives}
+use Rattle.claims.specs.Entries.{ReadGives, WriteGives, BoundsGives, SecondGives, PathGives, GainsGives, AlteredGives, StartGives, TickGives, TickInPlaceGives, RunGives, LateGives, ReplayGives, LogGives, StgReadGives, StgWriteGives, PlannerReadGives, PlannerWriteGives, PlannerBoundsGives, PlannerSecondGives, PlannerPathGives, PlannerGainsGives, PlannerAlteredGives, PlannerStartGives, PlannerTickGives, PlannerTickInPlaceGives, PlannerRunGives, PlannerLateGives, PlannerReplayGives, PlannerLogGives, PlannerStgReadGives, PlannerStgWriteGives}
 
 pub read-given : {s : List ℕ} {t : Taken} → ReadGives s t → t ≡ readOf s
 read-given h = sym (h .as-seen .1) ∙ h .ensured ∙ ap readOf (h .as-seen .0)
@@ -142,3 +143,18 @@ planner-replay-given h = let i = h .as-seen in rw (← i .0, ← i .1, ← i .2,
 pub planner-log-given : {s e old new : List ℕ} {w : PlannerCount} → PlannerLogGives s e old w new
     → (w ≡ codedWrote (loggedOf s e (length old))) × (new ≡ logRoom s e old)
 planner-log-given h = let i = h .as-seen in rw (← i .0, ← i .1, ← i .2, ← i .3, ← i .4) (h .ensured)
+
+pub stg-read-given : {t cores kinds old new : List ℕ} {w : Wrote} → StgReadGives t cores kinds old w new
+    → (w ≡ readStgOf t cores kinds (length old)) × (new ≡ readRoom t cores kinds old)
+stg-read-given h = let i = h .as-seen in rw (← i .0, ← i .1, ← i .2, ← i .3, ← i .4, ← i .5) (h .ensured)
+
+pub stg-write-given : {s old new : List ℕ} {w : Wrote} → StgWriteGives s old w new → (w ≡ writeStgOf s (length old)) × (new ≡ writeRoom s old)
+stg-write-given h = let i = h .as-seen in rw (← i .0, ← i .1, ← i .2, ← i .3) (h .ensured)
+
+pub planner-stg-read-given : {t cores kinds old new : List ℕ} {w : PlannerCount} → PlannerStgReadGives t cores kinds old w new
+    → (w ≡ codedWrote (readStgOf t cores kinds (length old))) × (new ≡ readRoom t cores kinds old)
+planner-stg-read-given h = let i = h .as-seen in rw (← i .0, ← i .1, ← i .2, ← i .3, ← i .4, ← i .5) (h .ensured)
+
+pub planner-stg-write-given : {s old new : List ℕ} {w : PlannerCount} → PlannerStgWriteGives s old w new
+    → (w ≡ codedWrote (writeStgOf s (length old))) × (new ≡ writeRoom s old)
+planner-stg-write-given h = let i = h .as-seen in rw (← i .0, ← i .1, ← i .2, ← i .3) (h .ensured)

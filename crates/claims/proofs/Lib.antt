@@ -13,6 +13,7 @@ pub mod Order5
 pub mod Order6
 pub mod Order7
 pub mod Order8
+pub mod Order9
 -- What they cite of this crate.
 pub mod Entries
 pub mod Judged

@@ -15,6 +15,8 @@
 --   LateGives s e d r                `late`: the answer for the file s, the times e and the tick d
 --   ReplayGives s l old r new        `replay`: the answer for the file s and the log l, and the lent list from old to new
 --   LogGives s e old w new           `log`: the answer for the file s and the times e, and the lent room from old to new
+--   StgReadGives t cores kinds old w new   `stg::read`: the answer for the text t with these lists, and the lent room from old to new
+--   StgWriteGives s old w new        `stg_writer::write`: the answer for the file s, and the lent room from old to new
 --   PlannerReadGives s r, ..         the same of the entries for C and Rust
 --
 -- Of functions inside, which rest on what their `requires` says:
@@ -82,6 +84,10 @@ use Rattle.replay.proofs.replay as replay
 use Rattle.replay.proofs.replay.Reads as replay-reads
 use Rattle.logs.proofs.log as log
 use Rattle.logs.proofs.log.Reads as log-reads
+use Rattle.stg.proofs.read as stg-read
+use Rattle.stg.proofs.read.Reads as stg-read-reads
+use Rattle.stg_writer.proofs.write as stg-write
+use Rattle.stg_writer.proofs.write.Reads as stg-write-reads
 use Rattle.codes.specs.declared.PlannerGraph.{PlannerGraph}
 use Rattle.codes.specs.declared.PlannerCount.{PlannerCount}
 use Rattle.codes.specs.declared.PlannerBounds.{PlannerBounds}
@@ -118,6 +124,10 @@ use Rattle.planner.proofs.planner_replay as planner-replay
 use Rattle.planner.proofs.planner_replay.Reads as planner-replay-reads
 use Rattle.planner.proofs.planner_log as planner-log
 use Rattle.planner.proofs.planner_log.Reads as planner-log-reads
+use Rattle.planner.proofs.planner_stg_read as planner-stg-read
+use Rattle.planner.proofs.planner_stg_read.Reads as planner-stg-read-reads
+use Rattle.planner.proofs.planner_stg_write as planner-stg-write
+use Rattle.planner.proofs.planner_stg_write.Reads as planner-stg-write-reads
 use Rattle.planner.proofs.Outcomes.{planner-tick-in-place-stated}
 
 abbrev pub ReadGives : List ℕ → Taken → Type 0
@@ -174,6 +184,15 @@ ReplayGives s l old r new =
 abbrev pub LogGives : List ℕ → List ℕ → List ℕ → Wrote → List ℕ → Type 0
 LogGives s e old w new =
     Allows log.ended log-reads.Post (λ κs a r x. (now (a .0) ≡ s) × (now (a .1 .0) ≡ e) × (now (a .1 .1 .0) ≡ old) × (r ≡ w) × (now (x .1 .1 .0) ≡ new))
+
+abbrev pub StgReadGives : List ℕ → List ℕ → List ℕ → List ℕ → Wrote → List ℕ → Type 0
+StgReadGives t cores kinds old w new =
+    Allows stg-read.ended stg-read-reads.Post
+    (λ κs a r x. (now (a .0) ≡ t) × (now (a .1 .0) ≡ cores) × (now (a .1 .1 .0) ≡ kinds) × (now (a .1 .1 .1 .0) ≡ old) × (r ≡ w) × (now (x .1 .1 .1 .0) ≡ new))
+
+abbrev pub StgWriteGives : List ℕ → List ℕ → Wrote → List ℕ → Type 0
+StgWriteGives s old w new =
+    Allows stg-write.ended stg-write-reads.Post (λ κs a r x. (now (a .0) ≡ s) × (now (a .1 .0) ≡ old) × (r ≡ w) × (now (x .1 .0) ≡ new))
 
 abbrev pub AfreshGives : List ℕ → List ℕ → List ℕ → ℕ → List ℕ → Summary → Type 0
 AfreshGives e st o n w r =
@@ -254,3 +273,12 @@ abbrev pub PlannerLogGives : List ℕ → List ℕ → List ℕ → PlannerCount
 PlannerLogGives s e old w new =
     Allows planner-log.ended planner-log-reads.Post
     (λ κs a r x. (now (a .0) ≡ s) × (now (a .1 .0) ≡ e) × (now (a .1 .1 .0) ≡ old) × (r ≡ w) × (now (x .1 .1 .0) ≡ new))
+
+abbrev pub PlannerStgReadGives : List ℕ → List ℕ → List ℕ → List ℕ → PlannerCount → List ℕ → Type 0
+PlannerStgReadGives t cores kinds old w new =
+    Allows planner-stg-read.ended planner-stg-read-reads.Post
+    (λ κs a r x. (now (a .0) ≡ t) × (now (a .1 .0) ≡ cores) × (now (a .1 .1 .0) ≡ kinds) × (now (a .1 .1 .1 .0) ≡ old) × (r ≡ w) × (now (x .1 .1 .1 .0) ≡ new))
+
+abbrev pub PlannerStgWriteGives : List ℕ → List ℕ → PlannerCount → List ℕ → Type 0
+PlannerStgWriteGives s old w new =
+    Allows planner-stg-write.ended planner-stg-write-reads.Post (λ κs a r x. (now (a .0) ≡ s) × (now (a .1 .0) ≡ old) × (r ≡ w) × (now (x .1 .0) ≡ new))

@@ -289,10 +289,10 @@ pub fn coded_replay(replayed: Replayed) -> PlannerFinish
     ensures { λ r. ⌜ r ≡ codedReplay replayed ⌝ }
 {
     match replayed {
-        Replayed::Finish(finish) => PlannerFinish {
+        Replayed::Finish(last) => PlannerFinish {
             number: 0,
             place: 0,
-            finish: finish.0,
+            finish: last.0,
         },
         Replayed::Refused(refusal) => PlannerFinish {
             number: refusal.number,

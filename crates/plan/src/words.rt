@@ -26,6 +26,10 @@ const LOG: u8 = 9;
 
 const LOG_TIMED: u8 = 10;
 
+const TO_STG: u8 = 11;
+
+const FROM_STG: u8 = 251;
+
 const HELP: u8 = 252;
 
 const VERSION: u8 = 253;
@@ -78,6 +82,12 @@ fn number(word: &[u8], n: usize) -> u8 {
             UNKNOWN
         };
     }
+    if texts::equal(word, b"from-stg") {
+        return if n == 5 { FROM_STG } else { UNKNOWN };
+    }
+    if texts::equal(word, b"to-stg") {
+        return if n == 3 { TO_STG } else { UNKNOWN };
+    }
     if n != 2 {
         return UNKNOWN;
     }
@@ -115,6 +125,7 @@ fn answered(word: u8, t: &[u8], names: Names, g: Graph, file: &[u8]) -> u8
         8 => answers_runs::recorded::replayed(t, names, g, file),
         9 => answers_runs::recorded::full(t, g, file),
         10 => answers_runs::recorded::timed(t, names, g, file),
+        11 => answers_stg::written(file),
         _ => answers::sheet::answer(t, names, g),
     }
 }
@@ -167,6 +178,9 @@ fn row(word: u8) -> u8 {
     }
     if word == VERSION {
         return input::status(say::help::version(), input::ANSWER);
+    }
+    if word == FROM_STG {
+        return answers_stg::read();
     }
     if has_two(word) & input::is_standard(2) & input::is_standard(3) {
         return input::wrong(b"standard input can't be the graph and what goes with it");

@@ -43,6 +43,10 @@ use Rattle.planner.proofs.planner_replay as replay
 use Rattle.planner.proofs.planner_replay.Reads as replay-reads
 use Rattle.planner.proofs.planner_log as log
 use Rattle.planner.proofs.planner_log.Reads as log-reads
+use Rattle.planner.proofs.planner_stg_read as stg-read
+use Rattle.planner.proofs.planner_stg_read.Reads as stg-read-reads
+use Rattle.planner.proofs.planner_stg_write as stg-write
+use Rattle.planner.proofs.planner_stg_write.Reads as stg-write-reads
 
 pub planner-read-one : OneOutcome read.ended read-reads.Pre read-reads.Post
 planner-read-one κs a r r′ ws ws′ pre p q = (p ∙ sym q, refl)
@@ -115,3 +119,9 @@ planner-replay-one κs a r r′ ws ws′ pre p q = (p .0 ∙ sym (q .0), λ i. (
 
 pub planner-log-one : OneOutcome log.ended log-reads.Pre log-reads.Post
 planner-log-one κs a r r′ ws ws′ pre p q = (p .0 ∙ sym (q .0), λ i. (tt, (tt, ((p .1 ∙ sym (q .1)) i, tt))))
+
+pub planner-stg-read-one : OneOutcome stg-read.ended stg-read-reads.Pre stg-read-reads.Post
+planner-stg-read-one κs a r r′ ws ws′ pre p q = (p .0 ∙ sym (q .0), λ i. (tt, (tt, (tt, ((p .1 ∙ sym (q .1)) i, tt)))))
+
+pub planner-stg-write-one : OneOutcome stg-write.ended stg-write-reads.Pre stg-write-reads.Post
+planner-stg-write-one κs a r r′ ws ws′ pre p q = (p .0 ∙ sym (q .0), λ i. (tt, ((p .1 ∙ sym (q .1)) i, tt)))

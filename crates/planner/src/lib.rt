@@ -10,6 +10,7 @@ ghost use Rattle.schedule.specs.Tick.{tickOf};
 ghost use Rattle.schedule.specs.Whole.{playOf, finishesOf};
 ghost use Rattle.replay.specs.Answers.{replayOf, timesAfter};
 ghost use Rattle.logs.specs.Answers.{loggedOf, logRoom};
+ghost use Rattle.stg_text.specs.Answers.{readStgOf, readRoom, writeStgOf, writeRoom};
 ghost use Rattle.codes.specs.Coded.{codedGraph, codedWrote, BoundsCoded, SecondCoded, PathCoded, GainsCoded, AlteredCoded};
 ghost use Rattle.codes.specs.CodedRun.{codedStart, codedReport, codedTick, codedPlay, codedReplay, LateCoded};
 ghost use Rattle.planner.specs.Stepped.{codedStep};
@@ -136,6 +137,25 @@ pub extern "C" fn planner_log(file: &[u8], times: &[u32], log: &mut [u8]) -> Pla
     ensures { λ r. ⌜ (r ≡ codedWrote (loggedOf (now (file .entry)) (now (times .entry)) (length (now (log .entry))))) × (now (log .exit) ≡ logRoom (now (file .entry)) (now (times .entry)) (now (log .entry))) ⌝ }
 {
     coded_wrote(logs::log(file, times, log))
+}
+
+#[no_mangle]
+pub extern "C" fn planner_stg_read(
+    text: &[u8],
+    cores: &[u8],
+    kinds: &[u8],
+    out: &mut [u8],
+) -> PlannerCount
+    ensures { λ r. ⌜ (r ≡ codedWrote (readStgOf (now (text .entry)) (now (cores .entry)) (now (kinds .entry)) (length (now (out .entry))))) × (now (out .exit) ≡ readRoom (now (text .entry)) (now (cores .entry)) (now (kinds .entry)) (now (out .entry))) ⌝ }
+{
+    coded_wrote(stg::read(text, cores, kinds, out))
+}
+
+#[no_mangle]
+pub extern "C" fn planner_stg_write(file: &[u8], out: &mut [u8]) -> PlannerCount
+    ensures { λ r. ⌜ (r ≡ codedWrote (writeStgOf (now (file .entry)) (length (now (out .entry))))) × (now (out .exit) ≡ writeRoom (now (file .entry)) (now (out .entry))) ⌝ }
+{
+    coded_wrote(stg_writer::write(file, out))
 }
 
 // What the entry below stores, and what it hands back.

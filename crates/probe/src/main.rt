@@ -46,6 +46,8 @@ fn answer(letter: u8, p: &[u8]) {
         b'X' => probe_runs::run_request(p),
         b'L' => probe_logs::replay_request(p),
         b'O' => probe_logs::log_request(p),
+        b'U' => probe_stg::read_request(p),
+        b'V' => probe_stg::write_request(p),
         _ => print::bad(),
     }
 }

@@ -16,6 +16,11 @@ pub fn page() -> bool {
   plan replay FILE LOG   a recorded frame: its finish, and how long each stage
                          took, where the bounds cover it
   plan log FILE [TIMES]  the log of a run, as a board would record it
+  plan from-stg TEXT CORES KINDS
+                         the graph file of a Standard Task Graph text, with
+                         the cores of each type, and the type of each task or
+                         one for all: numbers parted by commas
+  plan to-stg FILE       the Standard Task Graph text of a graph
   plan graph FILE        the graph file of a board text
   plan text FILE         the board text of a graph file
   plan help              this page

@@ -1,0 +1,2 @@
+-- The public functions' contracts leave one outcome:
+pub mod Outcomes
