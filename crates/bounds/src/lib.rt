@@ -1,6 +1,7 @@
 // The bounds OLD-B and NEW-B-1, and the path that gives NEW-B-1. The two entries take the file's bytes.
 ghost use mathlib.Core.Path.{_≡_};
-ghost use Rattle.model.specs.Bounds.{NewB1};
+ghost use Prim.Native.Nat.{_≤_};
+ghost use Rattle.model.specs.Bounds.{volume, NewB1};
 ghost use Rattle.graph.specs.Model.{AcceptedGraph, asModel};
 ghost use Rattle.graph.specs.declared.Answer.the-variants.{Accepted, Refused};
 ghost use Rattle.reader.specs.Laid.{graphIn, Usable};
@@ -12,7 +13,6 @@ use reader::Header;
 use units::Parts;
 use units::Ticks;
 use weights::Measure;
-use weights::volume::volume;
 use weights::weights;
 
 mod accepted; // accepted.rt: the bounds and the path of an accepted graph
@@ -119,7 +119,7 @@ pub fn path_into(g: Graph, out: &mut [u8]) -> Pathed
     accepted::path_of(h, &g.cores, &g.kind, &g.wcet, &g.edge, &starts, &order, out)
 }
 
-// NEW-B-1 alone, over the lists as they are lent.
+// NEW-B-1 alone, over the lists as they are lent, from the volume that a caller has already.
 pub fn new_of<'a>(
     h: Header,
     cores: &'a [u8; 10],
@@ -128,13 +128,13 @@ pub fn new_of<'a>(
     edge: &'a [u16; 1024],
     start: &'a [u16; 129],
     order: &'a [u8; 128],
+    shares: Parts,
 ) -> Parts
     requires { ⌜ Usable h (now cores) (now kind) (now wcet) (now edge) (now start) (now order) ⌝ }
+    requires { ⌜ (shares .0 ≡ volume (asModel (graphIn h (now cores) (now kind) (now wcet) (now edge)))) × (shares .0 ≤ 922521600000000) ⌝ }
     ensures { λ r. ⌜ NewB1 (asModel (graphIn h (now (cores .entry)) (now (kind .entry)) (now (wcet .entry)) (now (edge .entry)))) (r .0) ⌝ }
 {
     let n = h.n;
-    let kinds = h.kinds;
-    let shares = volume(kind, wcet, cores, kinds, n);
-    let weight = weights(kind, wcet, cores, kinds, n, Measure::Scaled);
+    let weight = weights(kind, wcet, cores, h.kinds, n, Measure::Scaled);
     Parts(accepted::largest(edge, start, order, n, &weight)).plus(shares)
 }

@@ -1,14 +1,14 @@
 -- From NEW-B-1, or from a run that was played up to tick d, to what is told; and from what the reader took of a file to the entry's answer.
 use mathlib.Core.Path.{_≡_, sym, ap, _∙_, subst}
-use mathlib.Core.Bool.{Bool, true, not}
+use mathlib.Core.Bool.{true}
 use mathlib.Core.List.{List}
 use Prim.Native.Nat.{ℕ, _/_, _≤_, _<_, min}
 use native.Mathlib.Omega.{arith}
-use lib.Dec.{leb}
+use lib.Dec.{eqb, leb}
 use borrow.Author.Tests.{le-leb, lt-leb}
-use Rattle.model.specs.Places.{any}
+use Rattle.model.specs.Places.{sum}
 use Rattle.model.specs.Graph as model
-use Rattle.model.specs.Bounds.{PARTS, NewB1}
+use Rattle.model.specs.Bounds.{PARTS, volume, NewB1}
 use Rattle.model.specs.ListSchedule.{begin}
 use Rattle.graph.specs.Model.{asModel, AcceptedGraph}
 use Rattle.graph.specs.declared.Graph.{Graph}
@@ -19,7 +19,7 @@ use Rattle.reader.specs.Laid.{graphIn, TakenInto}
 use Rattle.reader.specs.declared.Header.{Header}
 use Rattle.tick.specs.declared.Run.{Run}
 use Rattle.tick.specs.Run.{leftOf, recordOf}
-use Rattle.ready.specs.Ready.{someLeft}
+use Rattle.bounds.proofs.Computed.{newOf, new-b-1-computed}
 use Rattle.leaps.specs.Finishes.{finishOf}
 use Rattle.leaps.specs.Leaps.{Fresh, untilOf}
 use Rattle.leaps.proofs.Finishes.{finish-below-new}
@@ -52,6 +52,11 @@ module _ (g : Graph) (A : AcceptedGraph g) (l : List ℕ) (fit : Fitting g l) (d
     pub told-by-run : d < B / PARTS → r .yes ≡ leb finish d → r .played .0 ≡ min d finish → Told G (timesOf l) d r
     told-by-run h y p = record { yes = y; new = B; is-new = new; played = rw (lt-leb (B / PARTS) d h) p }
 
+  -- where the volume alone is above d NEW-B-1 is so as well, since a path's sum comes on top of it
+  pub above : d < volume G / PARTS → (B : ℕ) × NewB1 G B × (d < B / PARTS)
+  unfolding asModel
+  above h = let b = new-b-1-computed (A .well-formed) (A .acyclic) in (newOf G, b, omega (arith, b .is))
+
   -- ---- by the run
 
   module _ (begun : Run) (is-begun : begun ≡ recordOf G 0 (begin (timesOf l))) where
@@ -66,8 +71,8 @@ module _ (g : Graph) (A : AcceptedGraph g) (l : List ℕ) (fit : Fitting g l) (d
       unfolding untilOf recordOf
       ticks-played = ap (λ (x : Run). x .instant) ends
 
-      pub has-ended : (busy : ℕ → Bool) → ((v : ℕ) → busy v ≡ someLeft (end .left) v) → not (any busy 128) ≡ leb finish d
-      has-ended busy is = nobody-left g A (timesOf l) (none-past g l fit) d busy (λ v. is v ∙ ap (λ (x : Run). someLeft (x .left) v) ends)
+      pub has-ended : eqb (sum (leftOf end) (g .n)) 0 ≡ leb finish d
+      has-ended = ap (λ (x : Run). eqb (sum (leftOf x) (g .n)) 0) ends ∙ nobody-left g A (timesOf l) (none-past g l fit) d
 
 -- ---- the entry
 

@@ -3,18 +3,19 @@
 ghost use mathlib.Core.Path.{_≡_};
 ghost use Prim.Native.Nat.{min};
 ghost use lib.Dec.{leb};
-ghost use Rattle.model.specs.Bounds.{NewB1};
 ghost use Rattle.graph.specs.declared.Graph.{Graph};
 ghost use Rattle.graph.specs.Model.{asModel};
 ghost use Rattle.graph.specs.declared.Answer.the-variants.{Accepted, Refused};
+ghost use Rattle.reader.specs.Laid.{graphIn, Usable};
 ghost use Rattle.tick.specs.Lists.{GraphOf};
 ghost use Rattle.times.specs.Times.{timesOf, Fitting};
 ghost use Rattle.leaps.specs.Finishes.{finishOf};
 ghost use Rattle.late.specs.Answers.{Told, Nothing, LateOf};
 use graph::Answer;
 use graph::Refusal;
-use units::Parts;
+use reader::Header;
 use units::Ticks;
+use weights::volume::volume;
 
 // The answer, whether the run ends by tick d, and how many ticks of it were played. Beside a refusal: no, and 0.
 pub struct Lateness {
@@ -34,7 +35,7 @@ fn refused(refusal: Refusal) -> Lateness
     }
 }
 
-// The run is played up to tick d: it has ended where nobody has ticks left then.
+// The run is played up to tick d: it has ended where no ticks are left then.
 fn looked_up(
     kinds: usize,
     n: usize,
@@ -52,7 +53,7 @@ fn looked_up(
     let begun = times::begun(n, edge, starts, times);
     let run = leaps::until(kinds, n, cores, kind, edge, starts, begun, d);
     let left = run.left;
-    let yes = vset::is_empty(ready::busy(left));
+    let yes = remains::total(left, n) == 0;
     Lateness {
         answer: Answer::Accepted,
         yes,
@@ -60,29 +61,38 @@ fn looked_up(
     }
 }
 
-// By demand 3 no run ends after NEW-B-1, so that there is nothing to look up where that is at most d.
-fn decided(
-    kinds: usize,
-    n: usize,
-    cores: &[u8; 10],
-    kind: &[u8; 128],
-    edge: &[u16; 1024],
-    starts: &[u16; 129],
+// By demand 3 no run ends after NEW-B-1, so that there is nothing to look up where that is at most d. NEW-B-1 is the volume and a path's
+// sum: where the volume alone is above d, no path is looked for.
+fn decided<'a>(
+    h: Header,
+    cores: &'a [u8; 10],
+    kind: &'a [u8; 128],
+    wcet: &'a [u32; 128],
+    edge: &'a [u16; 1024],
+    starts: &'a [u16; 129],
+    order: &'a [u8; 128],
     times: &[u32],
-    new: Parts,
     d: u32,
 ) -> Lateness
-    requires { ⌜ ((g : Graph) × GraphOf g kinds n (now cores) (now kind) (now edge) (now starts) × Fitting g (now times)) ⌝ }
+    requires { ⌜ Usable h (now cores) (now kind) (now wcet) (now edge) (now starts) (now order) ⌝ }
+    requires { ⌜ Fitting (graphIn h (now cores) (now kind) (now wcet) (now edge)) (now times) ⌝ }
     ensures { λ r. ⌜ r .answer ≡ Accepted ⌝ }
-    ensures { λ r. ⌜ ((g : Graph) → GraphOf g kinds n (now (cores .entry)) (now (kind .entry)) (now (edge .entry)) (now (starts .entry)) → Fitting g (now (times .entry)) → NewB1 (asModel g) (new .0) → Told (asModel g) (timesOf (now (times .entry))) d r) ⌝ }
+    ensures { λ r. ⌜ Told (asModel (graphIn h (now (cores .entry)) (now (kind .entry)) (now (wcet .entry)) (now (edge .entry)))) (timesOf (now (times .entry))) d r ⌝ }
 {
-    let bound = new.ticks();
-    if bound.0 <= d as u64 {
-        return Lateness {
-            answer: Answer::Accepted,
-            yes: true,
-            played: Ticks(0),
-        };
+    let n = h.n;
+    let kinds = h.kinds;
+    let shares = volume(kind, wcet, cores, kinds, n);
+    let least = shares.ticks();
+    if least.0 <= d as u64 {
+        let new = bounds::new_of(h, cores, kind, wcet, edge, starts, order, shares);
+        let bound = new.ticks();
+        if bound.0 <= d as u64 {
+            return Lateness {
+                answer: Answer::Accepted,
+                yes: true,
+                played: Ticks(0),
+            };
+        }
     }
     looked_up(kinds, n, cores, kind, edge, starts, times, d)
 }
@@ -113,8 +123,7 @@ pub fn late(file: &[u8], times: &[u32], d: u32) -> Lateness
             match judged {
                 Answer::Refused(refusal) => refused(refusal),
                 Answer::Accepted => {
-                    let new = bounds::new_of(h, &cores, &kind, &wcet, &edge, &starts, &order);
-                    decided(h.kinds, h.n, &cores, &kind, &edge, &starts, times, new, d)
+                    decided(h, &cores, &kind, &wcet, &edge, &starts, &order, times, d)
                 }
             }
         }

@@ -1,27 +1,41 @@
 -- The record of the list schedule at an instant: it stands for the state there, and up to the finish it is over exactly at the finish.
 use mathlib.Core.Path.{_≡_, refl, sym, ap, _∙_}
-use mathlib.Core.Logic.{⊎-elim}
-use mathlib.Core.Bool.{Bool, false, not, _&&_}
+use mathlib.Core.Logic.{_⊎_, inl, inr, ⊎-elim}
+use mathlib.Core.Bool.{Bool, true, false, not, _&&_}
 use Prim.Native.Nat.{ℕ, zero, suc, _-_, _≤_, _<_, min}
 use native.Mathlib.Omega.{arith}
-use lib.Dec.{ltb, leb}
+use lib.Dec.{eqb, ltb, leb}
 use lib.ListN.{getD}
-use borrow.Author.Tests.{le-leb, lt-leb}
-use Rattle.model.specs.Places.{pick, any, every, padded}
+use borrow.Author.Tests.{le-leb, lt-leb, eq-eqb, ne-eqb, ltb-true, ltb-false}
+use Rattle.model.specs.Places.{pick, any, every, sum, padded}
 use Rattle.model.specs.Graph as model
 use Rattle.model.specs.ListSchedule.{State, finished, begin, chosen, leap, steps}
-use Rattle.model.proofs.Bools.{clash, le-or-lt, not-true}
+use Rattle.model.proofs.Bools.{cases, clash, le-or-lt, not-true}
+use Rattle.model.proofs.Places.{any-elim, any-false}
+use Rattle.model.proofs.Sums.{sum-term, sum-zero}
 use Rattle.model.proofs.Listed.{chosen-ready}
 use Rattle.model.proofs.Leap.{ready-past}
 use Rattle.graph.specs.declared.Graph.{Graph}
 use Rattle.graph.specs.Model.{asModel, AcceptedGraph}
 use Rattle.tick.specs.Run.{leftOf, stateOf, awaited, recordOf, over}
 use Rattle.tick.proofs.Records.{state-record}
-use Rattle.tick.proofs.Ticking.{over-is}
-use Rattle.ready.specs.Ready.{someLeft}
+use Rattle.ready.proofs.Standing.{all-finished}
 use Rattle.leaps.specs.Finishes.{doneAt, finishOf}
 use Rattle.leaps.specs.Leaps.{Fresh, recordAt, untilOf}
 use Rattle.leaps.proofs.Finishes.{all-done}
+
+-- nobody has ticks left where there are none in all
+none-left : (c : ℕ → ℕ) (n : ℕ) → not (any (λ v. ltb 0 (c v)) n) ≡ eqb (sum c n) 0
+none-left c n = go (cases (any p n))
+  where
+    p : ℕ → Bool
+    p v = ltb 0 (c v)
+
+    go : (any p n ≡ true) ⊎ (any p n ≡ false) → not (any p n) ≡ eqb (sum c n) 0
+    go (inl t) =
+        let i = any-elim p n t in
+        rw t (sym (ne-eqb (sum c n) 0 (λ z. omega (arith, sum-term c (i .0) n (i .1), ltb-true 0 (c (i .0)) (i .2)))))
+    go (inr f) = rw f (sym (eq-eqb (sum c n) 0 (sum-zero c n (λ v l. omega (arith, ltb-false 0 (c v) (any-false p n v l f))))))
 
 module _ (g : Graph) (A : AcceptedGraph g) (e : ℕ → ℕ) (e-past : (v : ℕ) → g .n ≤ v → e v ≡ 0) where
   abbrev G : model.Graph
@@ -78,9 +92,11 @@ module _ (g : Graph) (A : AcceptedGraph g) (e : ℕ → ℕ) (e-past : (v : ℕ)
       (λ (h : d < finishOf G e). lt-leb (finishOf G e) (min d (finishOf G e)) (omega arith) ∙ sym (lt-leb (finishOf G e) d h))
       (le-or-lt (finishOf G e) d)
 
-  -- THEOREM. Nobody has ticks left in its record exactly where the finish is at most d.
-  pub nobody-left : (d : ℕ) (busy : ℕ → Bool) → ((v : ℕ) → busy v ≡ someLeft (untilOf g e d .left) v) → not (any busy 128) ≡ leb (finishOf G e) d
-  unfolding untilOf
-  nobody-left d busy is =
+  -- THEOREM. No ticks are left in its record exactly where the finish is at most d.
+  pub nobody-left : (d : ℕ) → eqb (sum (leftOf (untilOf g e d)) (g .n)) 0 ≡ leb (finishOf G e) d
+  unfolding untilOf over asModel
+  nobody-left d =
       let t = min d (finishOf G e) in
-      sym (over-is g A (recordAt g e t) (λ v h. ap (λ (c : ℕ → ℕ). c v) (left-at t) ∙ rest-past t v h) busy is) ∙ over-until d
+      let c = leftOf (recordAt g e t) in
+      sym (all-finished (A .well-formed) (A .acyclic) c (g .n) (omega arith) (λ v h. ap (λ (f : ℕ → ℕ). f v) (left-at t) ∙ rest-past t v h) ∙ none-left c (g .n))
+      ∙ over-until d

@@ -1,8 +1,7 @@
--- The longest sum of scaled weights and the volume: `figures_of` has the same beside OLD-B.
-use mathlib.Core.Path.{_≡_, ap, _∙_}
+-- The longest sum of scaled weights, and the volume that was handed over: `figures_of` has the same beside OLD-B.
+use mathlib.Core.Path.{ap, _∙_}
 use Prim.Native.Nat.{ℕ, _+_}
 use native.Mathlib.Omega.{arith}
-use Rattle.model.specs.Bounds.{vol, volume}
 use Rattle.graph.specs.Model.{asModel}
 use Rattle.graph.specs.declared.Graph.{Graph}
 use Rattle.reader.specs.Laid.{graphIn}
@@ -15,42 +14,34 @@ use Rattle.bounds.proofs.new_of.Tie as tie
 abbrev given : tie.Start → Graph
 given s = graphIn (s .args .h) (s .args .cores .now) (s .args .kind .now) (s .args .wcet .now) (s .args .edge .now)
 
-volume-requires : tie.Need-volume-requires
-volume-requires c κs = small-stages (c .pre .accepted)
-
 weights-requires : tie.Need-weights-requires
-weights-requires c κs = small-stages (c .before .pre .accepted)
+weights-requires c κs = small-stages (c .pre .0 .accepted)
 
 largest-requires : tie.Need-largest-requires
 largest-requires c κs =
     let w = c .before in
-    let p = w .before .before .pre in
+    let p = w .before .pre .0 in
     (_, weighed-by (p .accepted) (p .along) Scaled 720720000000 (scaled-most (p .accepted)) (omega arith) (w .weights .ensures))
 
 plus-requires : tie.Need-plus-requires
 plus-requires c κs =
     let w = c .before .before in
-    let p = w .before .before .pre in
-    omega (arith, small-by (p .accepted) (p .along) Scaled 720720000000 (scaled-most (p .accepted)) (omega arith) (w .weights .ensures) (c .largest .result) (c .largest .ensures), w .before .volume .ensures .1)
-
--- what the code adds up is the volume
-shares : (c : tie.After-volume) → c .volume .result .0 ≡ volume (asModel (given (c .before)))
-unfolding vol volume asModel
-shares c = c .volume .ensures .0
+    let s = w .before in
+    let p = s .pre .0 in
+    omega (arith, small-by (p .accepted) (p .along) Scaled 720720000000 (scaled-most (p .accepted)) (omega arith) (w .weights .ensures) (c .largest .result) (c .largest .ensures), s .pre .1 .1)
 
 returns : tie.Need-returns
 returns c =
     let l = c .before in
     let w = l .before .before in
-    let s = w .before .before in
-    let p = s .pre in
+    let s = w .before in
+    let p = s .pre .0 in
     let y = l .largest .result in
     record {
       len = y;
       longest = rw (scaled-is (asModel (given s))) at (greatest-by (p .accepted) (p .along) Scaled 720720000000 (scaled-most (p .accepted)) (omega arith) (w .weights .ensures) y (l .largest .ensures));
-      is = c .plus .ensures ∙ ap (λ (z : ℕ). y + z) (shares (w .before));
+      is = c .plus .ensures ∙ ap (λ (z : ℕ). y + z) (s .pre .1 .0);
     }
 
 pub new-of-spec : {M : Type 1} → statement M
-new-of-spec =
-    tie.close (tie.spec volume-requires weights-requires largest-requires plus-requires returns)
+new-of-spec = tie.close (tie.spec weights-requires largest-requires plus-requires returns)

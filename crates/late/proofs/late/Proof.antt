@@ -5,8 +5,6 @@ use Rattle.graph.specs.declared.Graph.{Graph}
 use Rattle.graph.specs.declared.Answer.the-variants.{Accepted}
 use Rattle.reader.specs.Laid.{graphIn, Usable}
 use Rattle.reader.proofs.Laying.{usable}
-use Rattle.tick.specs.Lists.{GraphOf}
-use Rattle.leaps.proofs.Stopping.{lent}
 use Rattle.times.specs.Times.{judgeTimes}
 use Rattle.times.proofs.Fits.{times-fit}
 use Rattle.late.proofs.Answers.{late-unread, late-untimed, late-told}
@@ -51,19 +49,8 @@ enum-told-2 c = search needs
 fit : (c : tie.After-enum-told2) → let r = c .before .before .before .before .before .before in judgeTimes (graph r) (now (r .before .before .before .before .before .before .before .before .before .args .times)) ≡ Accepted
 fit c = let j = c .before .before in sym (j .judge .ensures (graph (j .before .before .before .before)) refl refl) ∙ c .enum-told2 .given .1
 
-new-of-requires : tie.Need-new-of-requires
-new-of-requires c κs = lists (c .before .before .before .before .before .before .before .before .before .before)
-
--- what is lent
-run-of : (c : tie.After-enum-told2) → let r = c .before .before .before .before .before .before in let x = r .take in
-    GraphOf (graph r) (x .result .kinds) (x .result .n) (x .last .1 .0) (x .last .1 .1 .0) (x .last .1 .1 .1 .1 .0) (x .last .1 .1 .1 .1 .1 .0)
-run-of c = let t = c .before .before .before .before in let u = lists t in lent (graph (t .before .before)) (u .accepted) _ (u .along .starts)
-
 decided-requires : tie.Need-decided-requires
-decided-requires c κs =
-    let e = c .before .before .before .before .before .before .before .before .before .before .before in
-    let r = e .before .before .before .before .before .before in
-    (graph r, run-of e, times-fit (graph r) _ (fit e))
+decided-requires c κs = let e = c .before .before .before .before .before .before in (lists (e .before .before .before .before), times-fit (graph (e .before .before .before .before .before .before)) _ (fit e))
 
 returns : tie.Need-returns
 returns c =
@@ -79,12 +66,9 @@ returns-2 c =
 
 returns-3 : tie.Need-returns-3
 returns-3 c =
-    let o = c .before .before .before .before .before in
-    let e = o .before .before .before .before .before .before .before in
+    let e = c .before .before .before .before .before .before .before in
     let t = e .before .before .before .before in
-    let r = t .before .before in
-    late-told _ (r .take .ensures) _ _ (c .decided .result) (t .enum-told .given .1) (fit e) (c .decided .ensures .0)
-    (c .decided .ensures .1 (graph r) (run-of e) (times-fit (graph r) _ (fit e)) (o .new-of .ensures))
+    late-told _ (t .before .before .take .ensures) _ _ (c .decided .result) (t .enum-told .given .1) (fit e) (c .decided .ensures .0) (c .decided .ensures .1)
 
 pub late-spec : {M : Type 1} → statement M
 late-spec =
@@ -98,7 +82,6 @@ late-spec =
     enum-known-judged
     refused-requires-2
     enum-told-2
-    new-of-requires
     decided-requires
     returns
     returns-2
