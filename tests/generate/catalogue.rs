@@ -165,6 +165,16 @@ pub fn one_behind_all() -> Graph {
     with_edges(chain(128, 3, 5), &each(127, |v| (v, 127)))
 }
 
+/// The graphs of docs/orders/11.md. Two chained vertices of types of one core each: OLD-B rises with a core more.
+pub fn two_chained() -> Lists {
+    Lists { cores: vec![1, 1], kinds: vec![0, 1], wcets: vec![1, 1], edges: vec![edge(0, 1)] }
+}
+
+/// NEW-B-2 rises without the edge from 1 to 2: these then wait for one core.
+pub fn three_joined() -> Lists {
+    Lists { cores: vec![1, 1], kinds: vec![1, 0, 0], wcets: vec![1; 3], edges: vec![edge(0, 2), edge(1, 2)] }
+}
+
 fn worked_cases() -> Vec<Vec<u8>> {
     let altered = |change: &dyn Fn(&mut Lists)| {
         let mut lists = case_a();
@@ -193,6 +203,10 @@ fn worked_cases() -> Vec<Vec<u8>> {
         chain_of_no_time(),
         no_time_at_the_ends(),
         no_time_beside(),
+        two_chained(),
+        Lists { cores: vec![2, 1], ..two_chained() },
+        three_joined(),
+        Lists { edges: vec![edge(0, 2)], ..three_joined() },
     ];
     cases.iter().map(|lists| file_of_records(&records_of(lists))).collect()
 }

@@ -9,6 +9,7 @@
 //!   runs       execution times and run records, fitting and not
 //!   miscounts  numbers of unfinished predecessors counted wrongly
 //!   numbers    the runs and records of docs/orders/08.md, and records one step away from good ones
+//!   better     pairs of graphs of which the second is better
 //!   altered    a vertex and a new WCET for it, fitting and not
 //!   late       the tick that a run is asked to end by
 //!   conserving work-conserving schedules that need not be list schedules
@@ -22,6 +23,7 @@
 //!   stream     the request of each place for a seed
 
 pub mod altered;
+pub mod better;
 pub mod catalogue;
 pub mod conserving;
 pub mod damage;

@@ -11,7 +11,8 @@ use crate::generate::catalogue::{
     case_a, case_d, case_f, cores_for_no_time, middle_of_no_time, source_of_no_time, two_longest_paths,
 };
 use crate::generate::catalogue::{
-    numbers_of_paths, parallel_to_two, two_cores, two_sources, two_without_an_edge, type_of_one_core, unused_cores,
+    numbers_of_paths, parallel_to_two, two_cores, three_joined, two_chained, two_sources, two_without_an_edge, type_of_one_core,
+    unused_cores,
 };
 use crate::generate::conserving::{schedule, Manner};
 use crate::generate::faults::file_with;
@@ -65,6 +66,7 @@ pub fn faults(options: &Options) -> Vec<String> {
     faults.extend(numbers_on_paper());
     faults.extend(records_on_paper());
     faults.extend(stg::faults(options));
+    faults.extend(better_on_paper());
     faults.extend(paths_counted());
     faults.extend(schedules_of_three());
     for place in 0..2_000 {
@@ -746,6 +748,32 @@ fn late_on_paper() -> Vec<String> {
         }
     }
     faults
+}
+
+/// docs/orders/11.md works these out: a graph and a better one, with OLD-B, NEW-B-1 and NEW-B-2 of each, in parts.
+fn better_on_paper() -> Vec<String> {
+    let graph = |lists: Lists| read(&file_of_records(&records_of(&lists))).unwrap();
+    let (a, tick) = (case_a(), PARTS_IN_A_TICK);
+    let b = Lists { cores: vec![4, 3], ..a.clone() };
+    let c = Lists { cores: vec![16, 3], ..a.clone() };
+    let j = Lists { edges: vec![edge(0, 1), edge(1, 3), edge(2, 3)], ..a.clone() };
+    let (two, three) = (two_chained(), three_joined());
+    let worked: [(&str, Lists, [u64; 3]); 8] = [
+        ("A", a, [14_174_160, 13_693_680, 16 * tick]),
+        ("B", b, [13_333_320, 12_612_600, 16 * tick]),
+        ("C", c, [14_144_130, 11_801_790, 16 * tick]),
+        ("J", j, [14_174_160, 13_693_680, 19 * tick]),
+        ("two of one core", two.clone(), [2 * tick, 2 * tick, 2 * tick]),
+        ("two, one core more", Lists { cores: vec![2, 1], ..two }, [5 * tick / 2, 2 * tick, 2 * tick]),
+        ("three", three.clone(), [3 * tick, 3 * tick, 2 * tick]),
+        ("three without an edge", Lists { edges: vec![edge(0, 2)], ..three }, [3 * tick; 3]),
+    ];
+    let differs = worked.into_iter().filter_map(|(name, lists, on_paper)| {
+        let graph = graph(lists);
+        let found = [bounds(&graph).old, bounds(&graph).new, second(&graph).unwrap()];
+        (found != on_paper).then(|| format!("{name} has other bounds than on paper: {found:?}"))
+    });
+    differs.collect()
 }
 
 /// docs/orders/01.md works these gains out. A refused alteration of case A has its number and place.

@@ -3,6 +3,7 @@
 mod answer;
 mod by_bytes;
 mod by_ticks;
+mod better;
 mod census;
 mod compare;
 mod crosscheck;
@@ -35,6 +36,7 @@ fn main() -> ExitCode {
         Mode::Compare => compare::compare(&options),
         Mode::OwnRequests => census::own_requests(&options),
         Mode::Schedules => schedules::schedules(&options),
+        Mode::Pairs => better::pairs(&options),
         Mode::Sheets => sheets::sheets(&options),
         Mode::Sheet => sheets::sheet_of_input(),
         Mode::Frame => recorded::frame_of_input(&options, None),

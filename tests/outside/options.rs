@@ -5,6 +5,7 @@ pub const USAGE: &str = "\
 outside PROBE-COMMAND.. [--count N] [--seed S]      compare the probe's answers with the reference's
 outside --self [--count N] [--seed S]               the reference alone: all answers occur, other ways agree
 outside --schedules N [--seed S] [PROBE-COMMAND..]  random work-conserving schedules against the bounds
+outside --pairs N [--seed S] [PROBE-COMMAND..]      pairs of boards, one better than the other, against order 11
 outside --sheets N [--seed S] SHEET-COMMAND..       compare the sheet program's text, a process for each file
 outside --sheet                                     the reference's sheet of standard input
 outside --frame [--seed S]                          a log of the graph on standard input, of a frame that is no list schedule
@@ -18,6 +19,7 @@ pub enum Mode {
     Compare,
     OwnRequests,
     Schedules,
+    Pairs,
     Sheets,
     Sheet,
     Frame,
@@ -29,7 +31,7 @@ pub enum Mode {
 
 pub struct Options {
     pub mode: Mode,
-    /// how many requests, schedules or files; in `--show` the place
+    /// how many requests, schedules, pairs or files; in `--show` the place
     pub count: u64,
     pub seed: u64,
     pub command: Vec<String>,
@@ -55,6 +57,7 @@ impl Options {
                 "--idle-frame" => options.mode = Mode::IdleFrame,
                 "--answer" => options.mode = Mode::Answer,
                 "--schedules" => (options.mode, options.count) = (Mode::Schedules, number()?),
+                "--pairs" => (options.mode, options.count) = (Mode::Pairs, number()?),
                 "--sheets" => (options.mode, options.count) = (Mode::Sheets, number()?),
                 "--requests" => (options.mode, options.count) = (Mode::Requests, number()?),
                 "--show" => (options.mode, options.count) = (Mode::Show, number()?),

@@ -56,7 +56,7 @@ pub fn schedules(options: &Options) -> bool {
 }
 
 /// The program has no more to say, and ended well.
-fn ended_well(mut probe: Probe) -> bool {
+pub fn ended_well(mut probe: Probe) -> bool {
     let said_all = probe.rest().is_empty();
     if !said_all {
         eprintln!("more than one line for a request");
@@ -77,7 +77,7 @@ fn experiment(seed: u64, place: u64) -> (Graph, Random) {
 }
 
 /// `old X new Y ticks Z`, or bounds that nothing keeps, so that any other answer is a fault.
-fn probed(line: Option<String>) -> Bounds {
+pub fn probed(line: Option<String>) -> Bounds {
     let line = line.unwrap_or_default();
     match line.split(' ').collect::<Vec<_>>()[..] {
         ["old", old, "new", new, "ticks", ticks] => {
@@ -88,7 +88,7 @@ fn probed(line: Option<String>) -> Bounds {
 }
 
 /// `second X`; none where there are too many paths; or what nothing keeps.
-fn probed_second(line: Option<String>) -> Option<u64> {
+pub fn probed_second(line: Option<String>) -> Option<u64> {
     let line = line.unwrap_or_default();
     match line.split(' ').collect::<Vec<_>>()[..] {
         ["second", parts] => Some(parts.parse().unwrap_or(u64::MAX)),

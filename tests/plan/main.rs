@@ -1,7 +1,8 @@
-//! Board texts through `plan graph`, against what docs/BOARD.md says of them; and through `plan sheet` and `plan gains` those that are accepted,
-//! against the planner's reference.
+//! Board texts through `plan graph`, against what docs/BOARD.md says of them; and through `plan sheet`, `plan gains` and, with an altered graph,
+//! `plan compare` those that are accepted, against the planner's reference.
 //!
 //!   boards COUNT SEED COMMAND..     the command is the program `plan`, with its loader
+mod compare;
 mod gains;
 mod generate;
 #[allow(dead_code)]
@@ -87,6 +88,28 @@ fn planned(r: &mut Random, command: &[String], i: usize, text: &[u8], file: &[u8
     answer.row
 }
 
+/// An accepted text or its file, and an altered graph, through `plan compare`. Where nothing is worse, what may be compared has not risen.
+fn beside(r: &mut Random, command: &[String], i: usize, text: &[u8], file: &[u8], names: &[Vec<u8>]) -> &'static str {
+    let graph = planner::reader::read(file).expect("the graph was accepted");
+    let after = compare::altered(r, &graph);
+    let other = std::env::temp_dir().join(format!("board-{}.graph", std::process::id()));
+    std::fs::write(&other, planner::writer::file_of(&after)).expect("the other file is written");
+    let (input, names) = if r.below(2) == 0 { (file, &[][..]) } else { (text, names) };
+    let (row, said) = compare::compared(&graph, &after, names);
+    let (mut out, status) = asked_more(command, "compare", &[other.as_os_str().as_bytes()], input);
+    let _ = std::fs::remove_file(&other);
+    if !said.ends_with(b"\n") {
+        out.truncate(said.len());
+    }
+    if out != said {
+        differs(i, text, "another comparison", &out, &said);
+    }
+    if status != b"0" {
+        differs(i, text, "another status of compare", &status, b"0");
+    }
+    row
+}
+
 fn differs(i: usize, text: &[u8], what: &str, is: &[u8], should: &[u8]) -> ! {
     let kept = std::env::temp_dir().join("board.txt");
     let _ = std::fs::write(&kept, text);
@@ -109,6 +132,7 @@ fn main() {
         };
         for i in 0..20 {
             planned(&mut r, command, i, &text, &bytes, &names);
+            beside(&mut r, command, i, &text, &bytes, &names);
         }
     }
     for i in 0..count {
@@ -131,6 +155,7 @@ fn main() {
         }
         if digit == b"0" {
             *rows.entry(planned(&mut r, command, i, &text, &out, &names)).or_default() += 1;
+            *rows.entry(beside(&mut r, command, i, &text, &out, &names)).or_default() += 1;
         }
         // the file's text, and the text's own: both give the file again
         if digit == b"0" && i % 8 == 0 {
@@ -147,8 +172,8 @@ fn main() {
     eprintln!("{count} board texts, no difference: {}", seen.join(", "));
     let wanted = [
         "11", "4", "5", "6", "7", "7 WCET", "7 stage", "9", "STAGE large", "STAGE no number", "WCET large",
-        "WCET no number", "accepted", "altered", "byte", "extra", "gains", "large", "long line", "long name", "long text", "many",
-        "many waits", "missing", "no number", "no stage", "no type", "twice", "waits twice",
+        "WCET no number", "a larger WCET", "a new edge", "accepted", "altered", "another type", "byte", "extra", "fewer cores", "fewer edges", "gains", "large", "long line", "long name", "long text", "many",
+        "many waits", "missing", "no number", "no second", "no stage", "no type", "other stages", "other types", "promise", "twice", "waits twice",
     ];
     // few texts need not reach everything
     for row in wanted {

@@ -34,7 +34,7 @@ use Rattle.claims.proofs.Demand2.{bounds-are}
 -- ---- the bound, and the schedules that end by it
 
 -- where `second` accepts, the reader did
-accepted-file : {s : List ℕ} {r : Seconded} → SecondOf s r → r .answer ≡ Accepted → IsAccepted s
+pub accepted-file : {s : List ℕ} {r : Seconded} → SecondOf s r → r .answer ≡ Accepted → IsAccepted s
 accepted-file (refused e a z) ok = absurd (let z : _≡_ {A = ℕ} 0 1 = cc in omega arith)
 accepted-file (accepted e f) ok = e
 

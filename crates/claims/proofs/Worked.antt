@@ -1,12 +1,12 @@
 -- The worked cases of document 01 and of the orders: every line of the table is right, computed from the rules.
-use mathlib.Core.Path.{_≡_, refl}
-use mathlib.Core.Bool.{Bool, true, _&&_}
+use mathlib.Core.Path.{_≡_, refl, sym, ap₂}
+use mathlib.Core.Bool.{Bool, true, false, not, _&&_, _||_}
 use mathlib.Core.List.{List, [], _∷_}
-use Prim.Native.Nat.{ℕ, zero, suc, _+_, _<_, _/_}
+use Prim.Native.Nat.{ℕ, zero, suc, _+_, _≤_, _<_, _/_}
 use native.Mathlib.Omega.{arith}
-use lib.Dec.{ltb}
+use lib.Dec.{eqb, ltb}
 use lib.ListN.{length, getD}
-use borrow.Author.Tests.{ltb-true}
+use borrow.Author.Tests.{eqb-true, eq-eqb, ltb-true}
 use Rattle.model.specs.Places.{first, count, any, every, table, padded, sum, largest, along}
 use Rattle.model.specs.Graph.{Graph, WellFormed, source, sink}
 use Rattle.model.specs.Cycle.{Acyclic, walks, cyclic, reach, ancestor}
@@ -16,7 +16,8 @@ use Rattle.model.specs.Second.{parallel, parallelTo, volParallel, second}
 use Rattle.model.specs.PathCount.{waysWithin, ways, pathCount}
 use Rattle.model.specs.Visit.{amid, pathWithin, pathAt}
 use Rattle.model.specs.Ranking.{comes}
-use Rattle.model.proofs.Bools.{left-of, right-of}
+use Rattle.model.specs.Better.{withCores, withoutEdge, Improved, raised, Loosened, removed}
+use Rattle.model.proofs.Bools.{left-of, right-of, same-test}
 use Rattle.model.proofs.Visit.{secondOf, second-computed}
 use Rattle.model.proofs.Rankings.{manyBefore, rankingOf, ranking-computed}
 use Rattle.graph.specs.File.{wordAt, keyAt, order, isOrder, many, ordinal, column, words, keys, graphOf}
@@ -90,24 +91,30 @@ cases = (
     (
       gained worked.fileA refl refl refl (refl, (refl, (refl, (refl, tt)))) refl,
       (
-        computed _ refl refl refl refl refl refl,
+        computed worked.fileB refl refl refl refl refl refl,
         (
-          computed _ refl refl refl refl refl refl,
+          computed worked.fileC refl refl refl refl refl refl,
           (
-            computed worked.fileD refl refl refl refl refl refl,
+            seconded worked.joined refl refl refl,
             (
-              record { answer = refl; lent = refl },
+              seconded worked.parted refl refl refl,
               (
-                record { answer = refl; lent = refl },
+                computed worked.fileD refl refl refl refl refl refl,
                 (
-                  computed worked.fileF refl refl refl refl refl refl,
+                  record { answer = refl; lent = refl },
                   (
                     record { answer = refl; lent = refl },
                     (
-                      gained worked.twoEqual refl refl refl (refl, (refl, (refl, (refl, tt)))) refl,
+                      computed worked.fileF refl refl refl refl refl refl,
                       (
-                        gained worked.chain refl refl refl (refl, (refl, (refl, tt))) refl,
-                        (refl, (refl, (refl, (computed _ refl refl refl refl refl refl, (refl, (refl, (computed _ refl refl refl refl refl refl, (computed _ refl refl refl refl refl refl, (seconded worked.fileA refl refl refl, (seconded _ refl refl refl, tt)))))))))),
+                        record { answer = refl; lent = refl },
+                        (
+                          gained worked.twoEqual refl refl refl (refl, (refl, (refl, (refl, tt)))) refl,
+                          (
+                            gained worked.chain refl refl refl (refl, (refl, (refl, tt))) refl,
+                            (refl, (refl, (refl, (computed _ refl refl refl refl refl refl, (refl, (refl, (computed _ refl refl refl refl refl refl, (computed _ refl refl refl refl refl refl, (seconded worked.fileA refl refl refl, (seconded _ refl refl refl, tt)))))))))),
+                          ),
+                        ),
                       ),
                     ),
                   ),
@@ -120,3 +127,59 @@ cases = (
     ),
   ),
 )
+
+-- ---- two of these files that differ in one thing
+
+two : (P : ℕ → Type 0) → P 0 → P 1 → (s : ℕ) → s < 2 → P s
+two P a b zero l = a
+two P a b (suc zero) l = b
+two P a b (suc (suc s)) l = absurd (omega arith)
+
+pub c-raises-b : Improved (graphIn worked.fileB) (graphIn worked.fileC)
+unfolding first count any every table padded wordAt keyAt order isOrder many ordinal column words keys graphOf from to joins asModel walks cyclic rule1 rule2 rule3 rule4 rule5 rule6 rule7 rule8 rule9 rule10 rule11 holds places placeOf applies lowest judgeFrom readOf
+c-raises-b =
+    raised 0 16 (omega arith)
+    (record {
+      same-n = refl;
+      same-kinds = refl;
+      same-kind = λ v l. refl;
+      same-cores = two (λ s. graphIn worked.fileC .cores s ≡ withCores (graphIn worked.fileB) 0 16 .cores s) refl refl;
+      same-wcet = λ v l. refl;
+      same-edges = λ u v. refl;
+    })
+
+swap : (a b : ℕ) → eqb a b ≡ eqb b a
+swap a b = same-test (eqb a b) (eqb b a) (λ t. eq-eqb b a (sym (eqb-true a b t))) (λ t. eq-eqb a b (sym (eqb-true b a t)))
+
+-- of two edges, the second left out
+one-left : (a b d : Bool) → b ≡ d → (a ≡ true → d ≡ false) → a ≡ (a || b) && not d
+one-left true b d e f = rw (f refl) refl
+one-left false b d e f = rw e (neither d)
+  where
+    neither : (d : Bool) → false ≡ d && not d
+    neither true = refl
+    neither false = refl
+
+pub parted-lacks : Loosened (graphIn worked.joined) (graphIn worked.parted)
+unfolding first count any every table padded wordAt keyAt order isOrder many ordinal column words keys graphOf from to joins asModel walks cyclic rule1 rule2 rule3 rule4 rule5 rule6 rule7 rule8 rule9 rule10 rule11 holds places placeOf applies lowest judgeFrom readOf
+parted-lacks =
+    removed 1 2
+    (record {
+      same-n = refl;
+      same-kinds = refl;
+      same-kind = λ v l. refl;
+      same-cores = λ s l. refl;
+      same-wcet = λ v l. refl;
+      same-edges = λ u v. one-left (eqb 0 u && eqb 2 v) (eqb 1 u && eqb 2 v) (eqb u 1 && eqb v 2) (turned u v) (λ t. rw (← eqb-true 0 u (left-of (eqb 0 u) (eqb 2 v) t)) refl);
+    })
+  where
+    turned : (u v : ℕ) → eqb 1 u && eqb 2 v ≡ eqb u 1 && eqb v 2
+    turned u v = ap₂ (λ (x y : Bool). x && y) (swap 1 u) (swap 2 v)
+
+pub joined-paths : pathCount (graphIn worked.joined) ≡ 2
+unfolding first count any every table padded sum source sink wordAt keyAt order isOrder many ordinal column words keys graphOf from to joins asModel walks cyclic rule1 rule2 rule3 rule4 rule5 rule6 rule7 rule8 rule9 rule10 rule11 holds places placeOf applies lowest judgeFrom readOf waysWithin ways pathCount
+joined-paths = refl
+
+pub parted-paths : pathCount (graphIn worked.parted) ≡ 2
+unfolding first count any every table padded sum source sink wordAt keyAt order isOrder many ordinal column words keys graphOf from to joins asModel walks cyclic rule1 rule2 rule3 rule4 rule5 rule6 rule7 rule8 rule9 rule10 rule11 holds places placeOf applies lowest judgeFrom readOf waysWithin ways pathCount
+parted-paths = refl

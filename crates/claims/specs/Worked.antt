@@ -95,6 +95,12 @@ edgesA = edge 0 1 ++ edge 0 2 ++ edge 1 3 ++ edge 2 3
 abbrev pub fileA : List ℕ
 fileA = withEdges 2 edgesA
 
+abbrev pub fileB : List ℕ
+fileB = withEdges 4 edgesA
+
+abbrev pub fileC : List ℕ
+fileC = withEdges 16 edgesA
+
 -- case A with a third kind, of 16 cores
 abbrev withVision : List ℕ → List ℕ
 withVision rest = kind 0 2 ++ kind 1 3 ++ kind 2 16 ++ verticesA ++ rest
@@ -110,6 +116,16 @@ fileF = kind 0 1 ++ vertex 0 0 0
 abbrev pub twoEqual : List ℕ
 twoEqual = kind 0 2 ++ vertex 0 0 2 ++ vertex 1 0 3 ++ vertex 2 0 3 ++ vertex 3 0 4 ++ edgesA
 
+-- three vertices of WCET 1, two kinds of one core; 0 has kind 1, and 1 and 2 have kind 0
+abbrev three : List ℕ → List ℕ
+three edges = kind 0 1 ++ kind 1 1 ++ vertex 0 1 1 ++ vertex 1 0 1 ++ vertex 2 0 1 ++ edges
+
+abbrev pub joined : List ℕ
+joined = three (edge 0 2 ++ edge 1 2)
+
+abbrev pub parted : List ℕ
+parted = three (edge 0 2)
+
 abbrev pub chain : List ℕ
 chain = kind 0 2 ++ vertex 0 0 3 ++ vertex 1 0 0 ++ vertex 2 0 2 ++ edge 0 1 ++ edge 1 2
 
@@ -121,9 +137,12 @@ rows =
     bounds fileA 14174160 13693680 19 (0 ∷ 1 ∷ 3 ∷ [])
     ∷ run fileA (4 ∷ 9 ∷ 6 ∷ 3 ∷ []) (4 ∷ 13 ∷ 10 ∷ 16 ∷ []) 16
     ∷ gains fileA (2882880 ∷ 4324320 ∷ 2162160 ∷ 2162160 ∷ []) (1 ∷ 0 ∷ 2 ∷ 3 ∷ [])
-    -- B, C: A with 4 and with 16 cores of kind 0
-    ∷ bounds (withEdges 4 edgesA) 13333320 12612600 17 (0 ∷ 1 ∷ 3 ∷ [])
-    ∷ bounds (withEdges 16 edgesA) 14144130 11801790 16 (0 ∷ 1 ∷ 3 ∷ [])
+    -- B, C: A with 4 and with 16 cores of kind 0. With more cores OLD-B is larger
+    ∷ bounds fileB 13333320 12612600 17 (0 ∷ 1 ∷ 3 ∷ [])
+    ∷ bounds fileC 14144130 11801790 16 (0 ∷ 1 ∷ 3 ∷ [])
+    -- order 11: without the edge 1-2 NEW-B-2 is larger
+    ∷ second joined 1441440
+    ∷ second parted 2162160
     -- D, and E: vertex 1 takes 2
     ∷ bounds fileD 12252240 12252240 17 (0 ∷ 1 ∷ 3 ∷ 6 ∷ [])
     ∷ run fileD (0 ∷ 3 ∷ 2 ∷ 5 ∷ 1 ∷ 6 ∷ 0 ∷ []) (0 ∷ 3 ∷ 2 ∷ 8 ∷ 3 ∷ 9 ∷ 9 ∷ []) 9

@@ -21,7 +21,7 @@ use Rattle.model.specs.Bounds.{PARTS, scaled, volume, NewB1}
 use Rattle.model.specs.Second.{Parallel, parallel, second, NewB2}
 use Rattle.model.specs.PathCount.{pathCount}
 use Rattle.model.specs.Gain.{withWcet}
-use Rattle.model.specs.Better.{NoWorse, Better, Looser, withCores, withoutEdge}
+use Rattle.model.specs.Better.{NoWorse, Better, Looser, withCores, withoutEdge, SameGraph, Improved, raised, lowered, Loosened, improved, removed, Several, none, further}
 use Rattle.model.proofs.Bools.{left-of, or-left, or-right, or-cases}
 use Rattle.model.proofs.Sums.{sum-mono}
 use Rattle.model.proofs.Cycles.{walk-within, ranked}
@@ -178,80 +178,150 @@ pick-cases C r s a b f x = go (eqb r s) refl
     go true t = f (eqb-true r s t)
     go false t = x
 
-module _ {G : Graph} (W : WellFormed G) (s m : ℕ) (l : G .cores s ≤ m) (h : m ≤ 16) where
-  pub cores-well : WellFormed (withCores G s m)
-  cores-well = record {
-    some = W .some;
-    from = W .from;
-    to = W .to;
-    kind-known = W .kind-known;
-    some-core = λ r k. pick-cases (λ x. 0 < x) r s m (G .cores r) (λ e. omega (arith, W .some-core s (rw e at k))) (W .some-core r k);
-    few-cores = λ r k. pick-cases (λ x. x ≤ 16) r s m (G .cores r) (λ e. h) (W .few-cores r k);
-  }
+pub cores-well : {G : Graph} → WellFormed G → (s m : ℕ) → (s < G .kinds → 0 < m) → m ≤ 16 → WellFormed (withCores G s m)
+cores-well {G} W s m l h = record {
+  some = W .some;
+  from = W .from;
+  to = W .to;
+  kind-known = W .kind-known;
+  some-core = λ r k. pick-cases (λ x. 0 < x) r s m (G .cores r) (λ e. l (rw e at k)) (W .some-core r k);
+  few-cores = λ r k. pick-cases (λ x. x ≤ 16) r s m (G .cores r) (λ e. h) (W .few-cores r k);
+}
 
-  pub cores-better : Better G (withCores G s m)
-  cores-better = record {
-    no-worse = record {
-      same-n = refl;
-      same-kinds = refl;
-      same-kind = λ v k. refl;
-      more-cores = λ r k. pick-cases (λ x. G .cores r ≤ x) r s m (G .cores r) (λ e. rw e l) (omega arith);
-      less-work = λ v k. omega arith;
-    };
-    same-edges = λ u v. refl;
-  }
+cores-acyclic : {G : Graph} → Acyclic G → (s m : ℕ) → Acyclic (withCores G s m)
+cores-acyclic A s m v x = A v (walk-within (λ u w e. e) x)
+
+cores-better : {G : Graph} (s m : ℕ) → G .cores s ≤ m → Better G (withCores G s m)
+cores-better {G} s m l = record {
+  no-worse = record {
+    same-n = refl;
+    same-kinds = refl;
+    same-kind = λ v k. refl;
+    more-cores = λ r k. pick-cases (λ x. G .cores r ≤ x) r s m (G .cores r) (λ e. rw e l) (omega arith);
+    less-work = λ v k. omega arith;
+  };
+  same-edges = λ u v. refl;
+}
+
+module _ {G : Graph} (W : WellFormed G) (s m : ℕ) (l : G .cores s ≤ m) (h : m ≤ 16) where
+  more-well : WellFormed (withCores G s m)
+  more-well = cores-well W s m (λ k. omega (arith, W .some-core s k)) h
 
   -- THEOREM. One kind gets more cores, up to 16: neither bound rises.
   pub cores-new : Acyclic G → (B B′ : ℕ) → NewB1 G B → NewB1 (withCores G s m) B′ → B′ ≤ B
-  cores-new A = better-new W cores-well A cores-better
+  cores-new A = better-new W more-well A (cores-better s m l)
 
   pub cores-second : (B B′ : ℕ) → NewB2 G B → NewB2 (withCores G s m) B′ → B′ ≤ B
-  cores-second = better-second W cores-well cores-better
+  cores-second = better-second W more-well (cores-better s m l)
+
+-- THEOREM. Of two numbers of cores for one kind, all else as declared, the larger one gives no larger NEW-B-1.
+pub cores-between : {G : Graph} → WellFormed G → Acyclic G → (s a b : ℕ) → 0 < a → a ≤ b → b ≤ 16 → (B B′ : ℕ) → NewB1 (withCores G s a) B → NewB1 (withCores G s b) B′ → B′ ≤ B
+cores-between {G} W A s a b z l h =
+    better-new (cores-well W s a (λ k. z) (omega arith)) (cores-well W s b (λ k. omega arith) h) (cores-acyclic A s a)
+    (record {
+      no-worse = record {
+        same-n = refl;
+        same-kinds = refl;
+        same-kind = λ v k. refl;
+        more-cores = λ r k. each r (eqb r s);
+        less-work = λ v k. omega arith;
+      };
+      same-edges = λ u v. refl;
+    })
+  where
+    each : (r : ℕ) (c : Bool) → pick c a (G .cores r) ≤ pick c b (G .cores r)
+    each r true = l
+    each r false = omega arith
+
+wcet-better : {G : Graph} (v c : ℕ) → c ≤ G .wcet v → Better G (withWcet G v c)
+unfolding withWcet
+wcet-better {G} v c l = record {
+  no-worse = record {
+    same-n = refl;
+    same-kinds = refl;
+    same-kind = λ w k. refl;
+    more-cores = λ r k. omega arith;
+    less-work = λ w k. pick-cases (λ x. x ≤ G .wcet w) w v c (G .wcet w) (λ e. rw e l) (omega arith);
+  };
+  same-edges = λ a b. refl;
+}
 
 module _ {G : Graph} (W : WellFormed G) (v c : ℕ) (l : c ≤ G .wcet v) where
-  pub wcet-better : Better G (withWcet G v c)
-  unfolding withWcet
-  wcet-better = record {
-    no-worse = record {
-      same-n = refl;
-      same-kinds = refl;
-      same-kind = λ w k. refl;
-      more-cores = λ r k. omega arith;
-      less-work = λ w k. pick-cases (λ x. x ≤ G .wcet w) w v c (G .wcet w) (λ e. rw e l) (omega arith);
-    };
-    same-edges = λ a b. refl;
-  }
-
   -- THEOREM. One WCET is lowered: neither bound rises.
   pub wcet-new : Acyclic G → (B B′ : ℕ) → NewB1 G B → NewB1 (withWcet G v c) B′ → B′ ≤ B
-  wcet-new A = better-new W (wcet-well-formed W v c) A wcet-better
+  wcet-new A = better-new W (wcet-well-formed W v c) A (wcet-better v c l)
 
   pub wcet-second : (B B′ : ℕ) → NewB2 G B → NewB2 (withWcet G v c) B′ → B′ ≤ B
-  wcet-second = better-second W (wcet-well-formed W v c) wcet-better
+  wcet-second = better-second W (wcet-well-formed W v c) (wcet-better v c l)
+
+kept : (G : Graph) (u v a b : ℕ) → Edge (withoutEdge G u v) a b → Edge G a b
+kept G u v a b x = left-of (G .edge a b) (not (eqb a u && eqb b v)) x
+
+without-looser : {G : Graph} (u v : ℕ) → Looser G (withoutEdge G u v)
+without-looser {G} u v = record {
+  no-worse = record { same-n = refl; same-kinds = refl; same-kind = λ w k. refl; more-cores = λ r k. omega arith; less-work = λ w k. omega arith };
+  old-edges = kept G u v;
+}
 
 module _ {G : Graph} (W : WellFormed G) (u v : ℕ) where
-  kept : (a b : ℕ) → Edge (withoutEdge G u v) a b → Edge G a b
-  kept a b x = left-of (G .edge a b) (not (eqb a u && eqb b v)) x
-
   pub without-well : WellFormed (withoutEdge G u v)
   without-well = record {
     some = W .some;
-    from = λ a b x. W .from a b (kept a b x);
-    to = λ a b x. W .to a b (kept a b x);
+    from = λ a b x. W .from a b (kept G u v a b x);
+    to = λ a b x. W .to a b (kept G u v a b x);
     kind-known = W .kind-known;
     some-core = W .some-core;
     few-cores = W .few-cores;
   }
 
-  pub without-looser : Looser G (withoutEdge G u v)
-  without-looser = record {
-    no-worse = record { same-n = refl; same-kinds = refl; same-kind = λ w k. refl; more-cores = λ r k. omega arith; less-work = λ w k. omega arith };
-    old-edges = kept;
-  }
-
   pub without-acyclic : Acyclic G → Acyclic (withoutEdge G u v)
-  without-acyclic A = looser-acyclic W without-well A without-looser
+  without-acyclic A = looser-acyclic W without-well A (without-looser u v)
 
   -- THEOREM. One edge is removed: NEW-B-1 does not rise.
   pub without-new : Acyclic G → (B B′ : ℕ) → NewB1 G B → NewB1 (withoutEdge G u v) B′ → B′ ≤ B
-  without-new A = looser-new W without-well A without-looser
+  without-new A = looser-new W without-well A (without-looser u v)
+
+-- ---- several changes, one after the other
+
+no-worse-trans : {G H K : Graph} → NoWorse G H → NoWorse H K → NoWorse G K
+no-worse-trans a b = record {
+  same-n = b .same-n ∙ a .same-n;
+  same-kinds = b .same-kinds ∙ a .same-kinds;
+  same-kind = λ v l. b .same-kind v (omega (arith, a .same-n)) ∙ a .same-kind v l;
+  more-cores = λ s l. omega (arith, a .more-cores s l, b .more-cores s (omega (arith, a .same-kinds)));
+  less-work = λ v l. omega (arith, a .less-work v l, b .less-work v (omega (arith, a .same-n)));
+}
+
+better-trans : {G H K : Graph} → Better G H → Better H K → Better G K
+better-trans a b = record { no-worse = no-worse-trans (a .no-worse) (b .no-worse); same-edges = λ u v. b .same-edges u v ∙ a .same-edges u v }
+
+looser-trans : {G H K : Graph} → Looser G H → Looser H K → Looser G K
+looser-trans a b = record { no-worse = no-worse-trans (a .no-worse) (b .no-worse); old-edges = λ u v x. a .old-edges u v (b .old-edges u v x) }
+
+same-better : {G H : Graph} → SameGraph G H → Better G H
+same-better e = record {
+  no-worse = record {
+    same-n = e .same-n;
+    same-kinds = e .same-kinds;
+    same-kind = e .same-kind;
+    more-cores = λ s l. omega (arith, e .same-cores s l);
+    less-work = λ v l. omega (arith, e .same-wcet v l);
+  };
+  same-edges = e .same-edges;
+}
+
+pub improved-better : {G H : Graph} → Improved G H → Better G H
+improved-better (raised s m l e) = better-trans (cores-better s m l) (same-better e)
+improved-better (lowered v c l e) = better-trans (wcet-better v c l) (same-better e)
+
+pub loosened-looser : {G H : Graph} → Loosened G H → Looser G H
+loosened-looser (improved i) = better-looser (improved-better i)
+loosened-looser (removed u v e) = looser-trans (without-looser u v) (better-looser (same-better e))
+
+pub several-better : {G H : Graph} → Several Improved G H → Better G H
+several-better none = same-better (record { same-n = refl; same-kinds = refl; same-kind = λ v l. refl; same-cores = λ s l. refl; same-wcet = λ v l. refl; same-edges = λ u v. refl })
+several-better (further m i) = better-trans (several-better m) (improved-better i)
+
+pub several-looser : {G H : Graph} → Several Loosened G H → Looser G H
+several-looser none = better-looser (several-better none)
+several-looser (further m i) = looser-trans (several-looser m) (loosened-looser i)

@@ -3,6 +3,7 @@ ghost use Rattle.graph.specs.Model.{AcceptedGraph};
 use board::Names;
 use graph::Answer;
 use graph::Graph;
+use graph::Refusal;
 
 const SHEET: u8 = 0;
 
@@ -27,6 +28,8 @@ const LOG: u8 = 9;
 const LOG_TIMED: u8 = 10;
 
 const TO_STG: u8 = 11;
+
+const COMPARE: u8 = 12;
 
 const FROM_STG: u8 = 251;
 
@@ -88,6 +91,9 @@ fn number(word: &[u8], n: usize) -> u8 {
     if texts::equal(word, b"to-stg") {
         return if n == 3 { TO_STG } else { UNKNOWN };
     }
+    if texts::equal(word, b"compare") {
+        return if n == 4 { COMPARE } else { UNKNOWN };
+    }
     if n != 2 {
         return UNKNOWN;
     }
@@ -126,16 +132,25 @@ fn answered(word: u8, t: &[u8], names: Names, g: Graph, file: &[u8]) -> u8
         9 => answers_runs::recorded::full(t, g, file),
         10 => answers_runs::recorded::timed(t, names, g, file),
         11 => answers_stg::written(file),
+        12 => answers_compare::answer(t, names, g),
         _ => answers::sheet::answer(t, names, g),
     }
 }
 
-// What is said of a file. The one place that calls the reader: a file is read and judged once, and refused here or not at all.
+// A refusal. Of two files it is said which one is refused.
+fn refused(word: u8, r: Refusal) -> u8 {
+    if word == COMPARE {
+        return answers_compare::refused(answers_compare::FIRST, r);
+    }
+    input::status(say::out::refused(r), input::NO)
+}
+
+// What is said of a file. The one place that calls the reader, but for the second of two files: a file is read and judged once, and refused here or not at all.
 fn taken(word: u8, t: &[u8], names: Names, file: &[u8]) -> u8 {
     let taken = reader::read(file);
     let answer = taken.answer;
     match answer {
-        Answer::Refused(r) => input::status(say::out::refused(r), input::NO),
+        Answer::Refused(r) => refused(word, r),
         Answer::Accepted => {
             let g = taken.graph;
             answered(word, t, names, g, file)
@@ -184,6 +199,9 @@ fn row(word: u8) -> u8 {
     }
     if has_two(word) & input::is_standard(2) & input::is_standard(3) {
         return input::wrong(b"standard input can't be the graph and what goes with it");
+    }
+    if (word == COMPARE) & input::is_standard(2) & input::is_standard(3) {
+        return input::wrong(b"standard input can't be both files");
     }
     read(word, if word == FILE { 1 } else { 2 })
 }

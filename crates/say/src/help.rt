@@ -21,6 +21,8 @@ pub fn page() -> bool {
                          the cores of each type, and the type of each task or
                          one for all: numbers parted by commas
   plan to-stg FILE       the Standard Task Graph text of a graph
+  plan compare FILE FILE two boards: their sheets side by side, which numbers may
+                         be compared, and whether these are proved not to rise
   plan graph FILE        the graph file of a board text
   plan text FILE         the board text of a graph file
   plan help              this page

@@ -14,9 +14,6 @@ enum-known-answer c = search needs
 refused-requires : tie.Need-refused-requires
 refused-requires c κs = search needs
 
-status-requires : tie.Need-status-requires
-status-requires c κs = search needs
-
 enum-told : tie.Need-enum-told
 enum-told c = search needs
 
@@ -39,7 +36,6 @@ taken-spec =
     read-requires
     enum-known-answer
     refused-requires
-    status-requires
     enum-told
     answered-requires
     returns

@@ -1,0 +1,3 @@
+-- What it is for there to be no point that is worse.
+pub mod Good
+pub mod Outcomes
