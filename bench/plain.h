@@ -1,4 +1,4 @@
-/* The planner's work in plain C, to be timed beside the proved one: no proofs, arrays on the stack, the refusals 1 to 24. */
+/* The planner's work in plain C, to be timed beside the proved one: no proofs, arrays on the stack, the refusals 1 to 26. */
 #ifndef PLAIN_H
 #define PLAIN_H
 
@@ -44,6 +44,16 @@ struct plain_late {
     uint64_t yes, played;
 };
 
+struct plain_mended {
+    uint32_t number, place;
+    uint64_t length, list_length; /* in bytes */
+};
+
+struct plain_enough {
+    uint32_t number, place;
+    uint64_t cores;
+};
+
 struct plain_record {
     size_t n;
     uint64_t instant;
@@ -75,5 +85,7 @@ struct plain_count plain_log(const uint8_t *file, size_t length, const uint32_t 
 struct plain_count plain_stg_read(const uint8_t *text, size_t length, const uint8_t *cores, size_t kinds, const uint8_t *kind, size_t count, uint8_t *out,
                                   size_t room);
 struct plain_count plain_stg_write(const uint8_t *file, size_t length, uint8_t *out, size_t room);
+struct plain_mended plain_mend(const uint8_t *file, size_t length, uint8_t *out, size_t room, uint8_t *list, size_t list_room);
+struct plain_enough plain_enough(const uint8_t *file, size_t length, uint32_t kind, uint32_t limit);
 
 #endif

@@ -34,7 +34,7 @@
 #define PLANNER_MOST_VERTICES 128  /* there is one at least */
 #define PLANNER_MOST_EDGES 1024    /* there may be none */
 #define PLANNER_MOST_WCET 1000000  /* of a vertex, in ticks; it may be 0 */
-#define PLANNER_RECORD_LENGTH 8    /* of a file and of a log, in bytes */
+#define PLANNER_RECORD_LENGTH 8    /* of a file, of a log and of a list of mends, in bytes */
 #define PLANNER_LONGEST_FILE 9296  /* so many types, vertices and edges, in bytes */
 
 /* In a run record the instant plus all that remains is at most this: 128 vertices at the largest WCET. No run finishes later. */
@@ -53,6 +53,9 @@
    most, and so no more bytes than this. */
 #define PLANNER_LONGEST_STG 65536
 #define PLANNER_LONGEST_WRITTEN_STG 5759
+
+/* The list of what was done to mend a file, in bytes: two records at most for each record of the file. */
+#define PLANNER_LONGEST_MENDS 18592
 
 /* The stack that a call needs, in bytes, with its answer and what it is handed by value: no call needs more than 16,384. Measured over the
    requests of tests/, which reach every limit and every refusal, and rounded up to pages of 4,096 bytes with 512 to spare at the least: no
@@ -74,6 +77,8 @@
 #define PLANNER_STACK_LOG 12288
 #define PLANNER_STACK_STG_READ 20480
 #define PLANNER_STACK_STG_WRITE 12288
+#define PLANNER_STACK_MEND 16384
+#define PLANNER_STACK_ENOUGH 16384
 
 #ifdef __cplusplus
 #define PLANNER_SIZE(type, size) static_assert(sizeof(type) == (size), "the library lays " #type " out otherwise")
@@ -174,6 +179,21 @@ typedef struct PlannerLate {
 } PlannerLate;
 PLANNER_SIZE(PlannerLate, 24);
 
+typedef struct PlannerMended {
+    uint32_t number;
+    uint32_t place;
+    uint64_t length;      /* of the mended file, in bytes; both are 0 beside a refusal */
+    uint64_t list_length; /* of the list, in bytes */
+} PlannerMended;
+PLANNER_SIZE(PlannerMended, 24);
+
+typedef struct PlannerEnough {
+    uint32_t number;
+    uint32_t place;
+    uint64_t cores; /* 1 to 16; 0 beside a refusal */
+} PlannerEnough;
+PLANNER_SIZE(PlannerEnough, 16);
+
 /* Reads a file: its counts and lists. Refuses with 1 to 11. */
 PlannerGraph planner_read(const uint8_t *file, size_t file_length);
 
@@ -265,6 +285,24 @@ PlannerCount planner_stg_read(const uint8_t *text, size_t text_length, const uin
    fewer than three vertices, another source than the first vertex, another sink than the last, or one of these has a WCET above 0), then 15
    (`out` is shorter than the text). */
 PlannerCount planner_stg_write(const uint8_t *file, size_t file_length, uint8_t *out, size_t out_length);
+
+/* Mends a hand-edited file: writes the mended file into `out` and what was done into `list`; `length` and `list_length` say how long both are.
+   Bytes that must be 0 are cleared; an edge from a vertex to itself is dropped, and so is every later double of an edge; the edges that are kept
+   are put in order. Nothing else changes: numbers, cores, types, WCETs and ends that are wrong, cycles, and too many or too few records of a
+   kind are left for planner_read to refuse. A file that needs no mend comes back as it is, with an empty list, and a mended file needs none. The
+   list has records of 8 bytes: byte 0 is 0x43 (C, cleared), 0x44 (D, dropped since it goes from a vertex to itself), 0x58 (X, dropped as a later
+   double) or 0x4D (M, moved: its place among the kept edges is another one now), bytes 1 and 2 the number of the record in `file`, low byte
+   first, and the others are zero. They ascend by record, then C, D, X, M; no record has a letter twice, and one that is dropped may have a C
+   too. Refuses with 1 (the length), 2 at the first record of unknown kind (a stray byte is no refusal here), 3 at the first type behind a vertex
+   or an edge, or vertex behind an edge, then 15 at 0 (`out` is shorter than `file`, or `list` has fewer than 16 bytes for each record of it,
+   even where the answers are shorter). */
+PlannerMended planner_mend(const uint8_t *file, size_t file_length, uint8_t *out, size_t out_length, uint8_t *list, size_t list_length);
+
+/* How many cores of one type are enough: the smallest number from 1 to 16 with which NEW-B-1's whole ticks are at most `limit`, all else as
+   declared; how many the file gives the type doesn't matter. More cores than that are enough too. A declared type that no vertex has is answered
+   like any other, although its cores change nothing. Refuses with 1 to 11, then 25 at 0 (type `kind` is not declared, whatever the limit), then
+   26 at 0 (none of the sixteen numbers meets the limit). */
+PlannerEnough planner_enough(const uint8_t *file, size_t file_length, uint32_t kind, uint32_t limit);
 
 #ifdef __cplusplus
 }

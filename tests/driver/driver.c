@@ -402,6 +402,35 @@ static void letter_v(void)
     bytes(out.at, out.length);
 }
 
+/* Two lengths stand behind an answer. Beside a refusal both are 0, and are shown where they aren't. */
+static void letter_m(void)
+{
+    struct list file = take_list(1), out = take_room(1), list = take_room(1);
+    if (!all_taken())
+        return;
+    PlannerMended a = planner_mend(file.at, file.length, out.at, out.length, list.at, list.length);
+    if (!refused(a.number, a.place, "mended") || a.length != 0 || a.list_length != 0) {
+        field(a.length);
+        field(a.list_length);
+    }
+    text(" :");
+    bytes(out.at, out.length);
+    text(" :");
+    bytes(list.at, list.length);
+}
+
+static void letter_c(void)
+{
+    struct list file = take_list(1);
+    uint32_t kind = take_word(), limit = take_word();
+    if (!all_taken())
+        return;
+    PlannerEnough a = planner_enough(file.at, file.length, kind, limit);
+    if (refused(a.number, a.place, "cores"))
+        text(" cores");
+    field(a.cores);
+}
+
 static struct letter {
     char letter;
     void (*answer)(void);
@@ -425,6 +454,8 @@ static struct letter {
     {'O', letter_o, "planner_log", PLANNER_STACK_LOG, 0},
     {'U', letter_u, "planner_stg_read", PLANNER_STACK_STG_READ, 0},
     {'V', letter_v, "planner_stg_write", PLANNER_STACK_STG_WRITE, 0},
+    {'M', letter_m, "planner_mend", PLANNER_STACK_MEND, 0},
+    {'C', letter_c, "planner_enough", PLANNER_STACK_ENOUGH, 0},
 };
 enum { LETTERS = sizeof letters / sizeof letters[0] };
 

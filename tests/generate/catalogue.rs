@@ -1,10 +1,12 @@
 //! The requests that are asked for every seed: the worked cases, and every limit from both sides.
 
+use super::enough;
 use super::frames::{frames, written};
 use super::graphs::{chain, exactly};
 use super::late;
 use super::lists::{edge, file_of as file_of_records, lists_of, records_of, Record};
 use super::logs::{conserving, cut, MOST_RECORDS};
+use super::mends;
 use super::numbers;
 use super::random::Random;
 use super::request::{self, Request, LARGEST_ROOM, LONGEST_PAYLOAD};
@@ -39,6 +41,8 @@ pub fn catalogue() -> Vec<Request> {
     requests.extend(logs_at_the_limits());
     requests.extend(logs_of_small_runs());
     requests.extend(texts::catalogue());
+    requests.extend(mends::catalogue());
+    requests.extend(enough::catalogue());
     for file in numbers_of_paths().iter().map(file_of) {
         requests.extend([request::bounds(&file), request::second(&file)]);
     }
@@ -321,6 +325,11 @@ fn questions_of(file: &[u8]) -> Vec<Request> {
         request::log(file, &[], 0),
         request::stg_write(file, 0),
         request::stg_write(file, 6_000),
+        request::mend(file, file.len().min(LARGEST_ROOM), (2 * file.len()).min(LARGEST_ROOM)),
+        request::mend(file, 0, 0),
+        request::enough(file, 0, 0),
+        request::enough(file, 0, u32::MAX as u64),
+        request::enough(file, 10, 0),
     ]
 }
 

@@ -6,13 +6,13 @@ use super::request::{Request, LARGEST_ROOM, LONGEST_PAYLOAD};
 /// A good request made bad, or, now and then, left good by chance.
 pub fn spoilt(random: &mut Random, mut request: Request) -> Request {
     match random.below(9) {
-        0 => request.letter = random.pick(b"CEZrwbpstixgandlouv\0\n\xFF"),
+        0 => request.letter = random.pick(b"EQZrwbpstixgandlouvmc\0\n\xFF"),
         1 => request.payload.truncate(random.between(0, request.payload.len())),
         2 => drop(request.payload.pop()),
         3 => request.payload.push(random.byte()),
         4 => change_list_length(random, &mut request.payload),
-        5 => request.letter = random.pick(b"RWBPSTIXGANDLOUV"),
-        6 => set_room(random, &mut request.payload),
+        5 => request.letter = random.pick(b"RWBPSTIXGANDLOUVMC"),
+        6 => set_room(random, &mut request),
         7 => request = odd_list(random),
         _ => lengthen(random, &mut request.payload),
     }
@@ -29,13 +29,14 @@ fn change_list_length(random: &mut Random, payload: &mut [u8]) {
     }
 }
 
-/// The last 8 bytes are the room in W, P, X, G, A, L, O, U and V, and the tick in D.
-fn set_room(random: &mut Random, payload: &mut [u8]) {
-    if payload.len() >= 8 {
+/// The last 8 bytes are the room in W, P, X, G, A, L, O, U and V, the tick in D and the limit in C. In M they are the second of
+/// two rooms; those before them are the first, and the type in C.
+fn set_room(random: &mut Random, request: &mut Request) {
+    let before = if b"MC".contains(&request.letter) { random.pick(&[8, 16]) } else { 8 };
+    if let Some(at) = request.payload.len().checked_sub(before) {
         let most = LARGEST_ROOM as u64;
         let room = random.pick(&[most, most + 1, 1 << 32, (1 << 32) + most, 1 << 63, u64::MAX]);
-        let at = payload.len() - 8;
-        payload[at..].copy_from_slice(&room.to_le_bytes());
+        request.payload[at..at + 8].copy_from_slice(&room.to_le_bytes());
     }
 }
 

@@ -17,6 +17,9 @@
 //!   logs       logs of frames, good and with a fault planted for each number that says no
 //!   stg        Standard Task Graph texts, good and with a fault planted for each number that says no
 //!   texts      the texts of docs/orders/09.md, and every limit of a text
+//!   edited     files as scripts leave them: with what is mended, with what is left, and with what is refused
+//!   mends      the files of docs/orders/12.md, and every limit of a file to be mended
+//!   enough     a type and a limit for which enough cores are asked, fitting and not
 //!   request    how a request travels
 //!   catalogue  the worked cases and every limit, the same for each seed
 //!   malformed  requests that are none
@@ -27,6 +30,8 @@ pub mod better;
 pub mod catalogue;
 pub mod conserving;
 pub mod damage;
+pub mod edited;
+pub mod enough;
 pub mod faults;
 pub mod frames;
 pub mod graphs;
@@ -34,6 +39,7 @@ pub mod late;
 pub mod lists;
 pub mod logs;
 pub mod malformed;
+pub mod mends;
 pub mod miscounts;
 pub mod numbers;
 pub mod random;

@@ -108,6 +108,15 @@ pub fn stg_write(file: &[u8], room: usize) -> Request {
     Request::of(b'V').list(file).number(room as u64)
 }
 
+pub fn mend(file: &[u8], room: usize, list_room: usize) -> Request {
+    Request::of(b'M').list(file).number(room as u64).number(list_room as u64)
+}
+
+/// Type and limit are of 32 bits where the request is one; as numbers they may have more.
+pub fn enough(file: &[u8], kind: u64, limit: u64) -> Request {
+    Request::of(b'C').list(file).number(kind).number(limit)
+}
+
 fn words(list: &[u32]) -> Vec<u8> {
     list.iter().flat_map(|w| w.to_le_bytes()).collect()
 }

@@ -4,6 +4,8 @@
 use super::altered;
 use super::catalogue::catalogue;
 use super::damage::damage;
+use super::edited;
+use super::enough;
 use super::faults::{file_with, plant};
 use super::graphs;
 use super::late;
@@ -38,7 +40,7 @@ impl Stream {
 }
 
 fn any_request(random: &mut Random) -> Request {
-    let request = match random.below(56) {
+    let request = match random.below(62) {
         0..=3 => request::read(&any_file(random, 3).1),
         4..=5 => any_write(random),
         6..=7 => request::bounds(&any_file(random, 8).1),
@@ -53,7 +55,9 @@ fn any_request(random: &mut Random) -> Request {
         40..=43 => any_replay(random),
         44..=47 => any_log(random),
         48..=51 => any_stg_read(random),
-        _ => any_stg_write(random),
+        52..=55 => any_stg_write(random),
+        56..=57 => any_mend(random),
+        _ => any_enough(random),
     };
     if random.one_in(20) {
         spoilt(random, request)
@@ -232,6 +236,23 @@ fn any_stg_write(random: &mut Random) -> Request {
     let needed = stg_write(&graph, LARGEST_ROOM).map_or(20, |text| text.len());
     let room = if random.one_in(3) { any_room(random, needed) } else { needed + random.pick(&[0, 0, 1, 8, 16, 50]) };
     request::stg_write(&file, room)
+}
+
+fn any_mend(random: &mut Random) -> Request {
+    let file = edited::any(random);
+    let (room, list_room) = edited::rooms(random, &file);
+    request::mend(&file, room.min(LARGEST_ROOM), list_room.min(LARGEST_ROOM))
+}
+
+fn any_enough(random: &mut Random) -> Request {
+    let (graph, file) = any_file(random, 8);
+    let mut kind = enough::kind(random, &graph);
+    let mut limit = enough::limit(random, &graph, kind);
+    if random.one_in(40) {
+        let wide = if random.one_in(2) { &mut kind } else { &mut limit };
+        *wide = altered::too_wide(random, *wide);
+    }
+    request::enough(&file, kind, limit)
 }
 
 /// Every other graph is made to have a number of complete paths.

@@ -2,9 +2,11 @@
 
 use crate::generate::request::{Request, LARGEST_ROOM, LONGEST_PAYLOAD};
 use crate::reference::bounds::{bounds, path};
+use crate::reference::enough::enough;
 use crate::reference::gains::{gains, gains_altered};
 use crate::reference::late::late;
 use crate::reference::log::log;
+use crate::reference::mend::mend;
 use crate::reference::reader::read;
 use crate::reference::record::RunRecord;
 use crate::reference::refusal::Refusal;
@@ -42,6 +44,8 @@ pub fn answer(request: &Request) -> String {
         b'O' => answer_log(fields),
         b'U' => answer_stg_read(fields),
         b'V' => answer_stg_write(fields),
+        b'M' => answer_mend(fields),
+        b'C' => answer_enough(fields),
         _ => None,
     };
     line.unwrap_or(BAD.to_string())
@@ -139,6 +143,18 @@ impl<'a> Fields<'a> {
         let (file, room) = (self.list()?, self.room()?);
         self.end()?;
         Some((file, room))
+    }
+
+    fn of_mend(mut self) -> Option<(&'a [u8], usize, usize)> {
+        let (file, room, list_room) = (self.list()?, self.room()?, self.room()?);
+        self.end()?;
+        Some((file, room, list_room))
+    }
+
+    fn of_enough(mut self) -> Option<(&'a [u8], u32, u32)> {
+        let (file, kind, limit) = (self.list()?, self.word()?, self.word()?);
+        self.end()?;
+        Some((file, kind, limit))
     }
 
     fn end(self) -> Option<()> {
@@ -310,21 +326,52 @@ pub fn asked_stg_write(request: &Request) -> Option<(&[u8], usize)> {
     Fields(&request.payload).of_stg_write()
 }
 
+fn answer_mend(fields: Fields) -> Option<String> {
+    let (file, room, list_room) = fields.of_mend()?;
+    let outcome = mend(file, room, list_room);
+    let head = match &outcome {
+        Err(refusal) => refused(*refusal),
+        Ok(mended) => format!("mended {} {}", mended.file.len(), mended.list.len()),
+    };
+    let mended = outcome.unwrap_or_default();
+    let (file, list) = (held(&mended.file, room, PRESET), held(&mended.list, list_room, PRESET));
+    Some(format!("{head} :{} :{}", joined(file), joined(list)))
+}
+
+/// What a request to mend asks about: file and both rooms.
+pub fn asked_mend(request: &Request) -> Option<(&[u8], usize, usize)> {
+    Fields(&request.payload).of_mend()
+}
+
+fn answer_enough(fields: Fields) -> Option<String> {
+    let (file, kind, limit) = fields.of_enough()?;
+    Some(match read(file).and_then(|graph| enough(&graph, kind, limit)) {
+        Err(refusal) => format!("{} cores 0", refused(refusal)),
+        Ok(cores) => format!("cores {cores}"),
+    })
+}
+
+/// What a request for the cores that are enough asks about: file, type and limit.
+pub fn asked_enough(request: &Request) -> Option<(&[u8], u32, u32)> {
+    Fields(&request.payload).of_enough()
+}
+
 fn told_gains(outcome: Result<Vec<u64>, Refusal>, room: usize) -> String {
     lent("gains", outcome.map(|gains| (gains.len(), gains)), room, u64::from_le_bytes([PRESET; 8]))
 }
 
-/// A word with its number, or a refusal, and all the lent places: the answer's first, the others as they were.
+/// A word with its number, or a refusal, and all the lent places.
 fn lent<T: Copy + Display>(word: &str, outcome: Result<(usize, Vec<T>), Refusal>, room: usize, preset: T) -> String {
-    let mut places = vec![preset; room];
-    let head = match outcome {
-        Err(refusal) => refused(refusal),
-        Ok((number, list)) => {
-            places[..list.len()].copy_from_slice(&list);
-            format!("{word} {number}")
-        }
+    let (head, list) = match outcome {
+        Err(refusal) => (refused(refusal), vec![]),
+        Ok((number, list)) => (format!("{word} {number}"), list),
     };
-    format!("{head} :{}", joined(&places))
+    format!("{head} :{}", joined(held(&list, room, preset)))
+}
+
+/// What a lent list of so many places holds: the answer's first, the others as they were.
+fn held<T: Copy>(list: &[T], room: usize, preset: T) -> Vec<T> {
+    [list, &vec![preset; room - list.len()]].concat()
 }
 
 fn refused(refusal: Refusal) -> String {

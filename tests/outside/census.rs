@@ -1,8 +1,11 @@
 //! The reference alone: which answers its own requests get, and whether every one of them occurs.
 
-use crate::answer::{answer, answers, asked_late, asked_replay, asked_stg_read, asked_stg_write, asked_tick};
+use crate::answer::{answer, answers, asked_enough, asked_late, asked_mend, asked_replay};
+use crate::answer::{asked_stg_read, asked_stg_write, asked_tick};
 use crate::compare::cut_input;
 use crate::crosscheck;
+use crate::edited::{Edited, EDITED};
+use crate::enough::{bounds_asked, Limited, LIMITS};
 use crate::generate::request::Request;
 use crate::generate::stream::Stream;
 use crate::logged::{Logged, LOGS};
@@ -18,7 +21,7 @@ use std::collections::BTreeMap;
 
 /// What can be answered to each letter: 12 never. `-` is any request that isn't one. A 7 of A is the file's own; the two
 /// 7s of what is altered have words: `vertex` where the graph doesn't have it, `wcet` where the new one is above the limit.
-const POSSIBLE: [(char, &str, &[u32]); 17] = [
+const POSSIBLE: [(char, &str, &[u32]); 19] = [
     ('R', "graph", &[1, 2, 3, 4, 5, 6, 7, 8, 9, 10, 11]),
     ('W', "wrote", &[4, 5, 6, 7, 8, 9, 10, 11, 13, 15]),
     ('B', "old", &[1, 2, 3, 4, 5, 6, 7, 8, 9, 10, 11]),
@@ -35,11 +38,13 @@ const POSSIBLE: [(char, &str, &[u32]); 17] = [
     ('O', "log", &[1, 2, 3, 4, 5, 6, 7, 8, 9, 10, 11, 13, 14, 15]),
     ('U', "read", &[4, 5, 7, 8, 9, 11, 13, 15, 23]),
     ('V', "text", &[1, 2, 3, 4, 5, 6, 7, 8, 9, 10, 11, 15, 24]),
+    ('M', "mended", &[1, 2, 3, 15]),
+    ('C', "cores", &[1, 2, 3, 4, 5, 6, 7, 8, 9, 10, 11, 25, 26]),
     ('-', "bad", &[]),
 ];
 
 /// The largest number that says no.
-const LAST_NUMBER: u32 = 24;
+const LAST_NUMBER: u32 = 26;
 
 /// The boards on which Mmax can be taken wrongly: each has to be asked for its bounds. A kind is idle where all vertices
 /// that have it have WCET 0.
@@ -88,6 +93,8 @@ pub fn own_requests(options: &Options) -> bool {
     let mut unsuited = [0; CONDITIONS.len()];
     let mut records = [0; RECORDS.len()];
     let (mut texts, mut written) = ([0; TEXTS.len()], [0; WRITTEN.len()]);
+    let (mut edited, mut limits) = ([0; EDITED.len()], [0; LIMITS.len()]);
+    let mut sixteen: BTreeMap<String, u64> = bounds_asked().into_iter().map(|asked| (asked, 0)).collect();
     let mut lines: BTreeMap<String, u64> = texts::faults().into_iter().map(|fault| (fault, 0)).collect();
     for place in 0..options.count {
         let request = stream.request(place);
@@ -128,6 +135,19 @@ pub fn own_requests(options: &Options) -> bool {
                 WRITTEN.iter().zip(&mut written).for_each(|((_, is), many)| *many += is(&asked) as u64);
             }
         }
+        if cell.0 == 'M' {
+            let (file, room, list_room) = asked_mend(&request).unwrap();
+            let asked = Edited::of(file, (room, list_room));
+            EDITED.iter().zip(&mut edited).for_each(|((_, is), many)| *many += is(&asked) as u64);
+        }
+        if cell.0 == 'C' {
+            let (file, kind, limit) = asked_enough(&request).unwrap();
+            if let Ok(graph) = read(file) {
+                let asked = Limited::of(&graph, kind, limit);
+                LIMITS.iter().zip(&mut limits).for_each(|((_, is), many)| *many += is(&asked) as u64);
+                asked.asked().into_iter().for_each(|bound| *sixteen.entry(bound).or_default() += 1);
+            }
+        }
         *table.entry(cell).or_default() += 1;
     }
     print_table(&table);
@@ -138,9 +158,11 @@ pub fn own_requests(options: &Options) -> bool {
     faults.extend(never_asked("16 for one thing alone", &CONDITIONS.map(|(name, _)| name), &unsuited));
     faults.extend(never_asked("numbers of unfinished predecessors", &RECORDS.map(|(name, _)| name), &records));
     faults.extend(never_asked("texts", &TEXTS.map(|(name, _)| name), &texts));
-    let (names, counts): (Vec<&str>, Vec<u64>) = lines.iter().map(|(name, many)| (&name[..], *many)).unzip();
-    faults.extend(never_asked("lines at fault", &names, &counts));
+    faults.extend(never_asked_by_name("lines at fault", &lines));
     faults.extend(never_asked("texts written", &WRITTEN.map(|(name, _)| name), &written));
+    faults.extend(never_asked("files mended", &EDITED.map(|(name, _)| name), &edited));
+    faults.extend(never_asked("limits", &LIMITS.map(|(name, _)| name), &limits));
+    faults.extend(never_asked_by_name("limits and bounds", &sixteen));
     faults.extend(crosscheck::faults(options));
     if !(0..24).all(|place| answers(&cut_input(options.seed, place)).ends_with("bad request\n")) {
         faults.push("an input that ends inside a request must end with `bad request`".to_string());
@@ -162,6 +184,11 @@ fn never_asked(what: &str, names: &[&str], counts: &[u64]) -> Vec<String> {
     println!("{what}: {}", asked.join(", "));
     let missing = names.iter().zip(counts).filter(|(_, &many)| many == 0);
     missing.map(|(name, _)| format!("{what}: {name} is never asked for")).collect()
+}
+
+fn never_asked_by_name(what: &str, asked: &BTreeMap<String, u64>) -> Vec<String> {
+    let (names, counts): (Vec<&str>, Vec<u64>) = asked.iter().map(|(name, many)| (&name[..], *many)).unzip();
+    never_asked(what, &names, &counts)
 }
 
 /// The letter and the answer's kind: its word, or the number of a refusal.

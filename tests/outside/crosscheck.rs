@@ -1,18 +1,21 @@
 //! The reference against itself by second ways: all complete paths written out, bounds as fractions, ancestors by who
 //! stands before whom on these paths, gains by the paths without a vertex's time, alterations in the file's own bytes,
 //! runs tick by tick, stopped at any, unfinished predecessors by the finishes that lie ahead and by the paths, logs tick by
-//! tick and every schedule of three vertices, texts byte by byte and there and back, a planted fault for each number and each
-//! pair of them, and the values worked on paper.
+//! tick and every schedule of three vertices, texts byte by byte and there and back, files mended by counting and from the list
+//! of it, enough cores from the most of them down, a planted fault for each number and each pair of them, and the values worked
+//! on paper.
 
 use crate::by_ticks::{is_work_conserving, judged, log_of};
 use crate::compare::hex;
+use crate::enough;
+use crate::enough::enough_agrees;
 use crate::generate::altered;
 use crate::generate::catalogue::{
     case_a, case_d, case_f, cores_for_no_time, middle_of_no_time, source_of_no_time, two_longest_paths,
 };
 use crate::generate::catalogue::{
-    numbers_of_paths, parallel_to_two, two_cores, three_joined, two_chained, two_sources, two_without_an_edge, type_of_one_core,
-    unused_cores,
+    numbers_of_paths, parallel_to_two, three_joined, two_chained, two_cores, two_sources, two_without_an_edge,
+    type_of_one_core, unused_cores,
 };
 use crate::generate::conserving::{schedule, Manner};
 use crate::generate::faults::file_with;
@@ -24,6 +27,7 @@ use crate::generate::numbers;
 use crate::generate::random::Random;
 use crate::generate::runs::{damaged, misnumbered, times, unreached};
 use crate::generate::ways;
+use crate::mend;
 use crate::options::Options;
 use crate::reference::bounds::{bounds, least_path, Bounds};
 use crate::reference::gains::{gains, gains_altered, gains_of, ranking, with_wcet};
@@ -66,6 +70,8 @@ pub fn faults(options: &Options) -> Vec<String> {
     faults.extend(numbers_on_paper());
     faults.extend(records_on_paper());
     faults.extend(stg::faults(options));
+    faults.extend(mend::faults(options));
+    faults.extend(enough::faults());
     faults.extend(better_on_paper());
     faults.extend(paths_counted());
     faults.extend(schedules_of_three());
@@ -82,7 +88,8 @@ pub fn faults(options: &Options) -> Vec<String> {
             && runs_agree(random, &graph)
             && numbers_agree(random, &graph)
             && late_agrees(random, &graph)
-            && logs_agree(random, &graph);
+            && logs_agree(random, &graph)
+            && enough_agrees(random, &graph);
         if !same {
             faults.push(format!("two ways of the reference differ on {graph:?}"));
         }

@@ -1,15 +1,18 @@
 //! The planner's tests from outside. `tests/run` calls this; `outside` by itself says how.
 
 mod answer;
+mod better;
 mod by_bytes;
 mod by_ticks;
-mod better;
 mod census;
 mod compare;
 mod crosscheck;
+mod edited;
+mod enough;
 #[path = "../generate/mod.rs"]
 mod generate;
 mod logged;
+mod mend;
 mod numbered;
 mod options;
 mod probe;

@@ -10,7 +10,7 @@ pub struct Answer {
     pub digit: &'static [u8],
 }
 
-fn no(row: &'static str, said: Vec<u8>) -> Answer {
+pub fn no(row: &'static str, said: Vec<u8>) -> Answer {
     Answer { row, said, digit: b"1" }
 }
 
@@ -29,25 +29,25 @@ pub fn gains(graph: &Graph, names: &[Vec<u8>]) -> Answer {
     lines("gains", names, &gains_of(graph))
 }
 
-enum Number {
+pub enum Number {
     Of(u32),
     Large,
     None,
 }
 
-fn number(word: &[u8]) -> Number {
+pub fn number(word: &[u8]) -> Number {
     if word.is_empty() || !word.iter().all(u8::is_ascii_digit) {
         return Number::None;
     }
     std::str::from_utf8(word).unwrap().parse().map_or(Number::Large, Number::Of)
 }
 
-fn quoted(before: &str, word: &[u8], after: &str) -> Vec<u8> {
+pub fn quoted(before: &str, word: &[u8], after: &str) -> Vec<u8> {
     [before.as_bytes(), b"\"", word, b"\"", after.as_bytes(), b"\n"].concat()
 }
 
-const NO_NUMBER: &str = " is no number";
-const LARGE: &str = " is too large a number";
+pub const NO_NUMBER: &str = " is no number";
+pub const LARGE: &str = " is too large a number";
 
 /// The gains with the WCET of one stage altered, by what both arguments say.
 pub fn altered(graph: &Graph, names: &[Vec<u8>], stage: &[u8], wcet: &[u8]) -> Answer {

@@ -1,10 +1,11 @@
-//! Board texts through `plan graph`, against what docs/BOARD.md says of them; and through `plan sheet`, `plan gains` and, with an altered graph,
-//! `plan compare` those that are accepted, against the planner's reference.
+//! Board texts through `plan graph`, against what docs/BOARD.md says of them; and those that are accepted through `plan sheet`, `plan gains`,
+//! With an altered graph `plan compare` and with edited records `plan mend`, against the planner's reference.
 //!
 //!   boards COUNT SEED COMMAND..     the command is the program `plan`, with its loader
 mod compare;
 mod gains;
 mod generate;
+mod mend;
 #[allow(dead_code)]
 #[path = "../reference/mod.rs"]
 mod planner;
@@ -110,6 +111,30 @@ fn beside(r: &mut Random, command: &[String], i: usize, text: &[u8], file: &[u8]
     row
 }
 
+/// The file with some records edited through `plan mend`: what it says and what it writes, which is nothing where it is refused.
+fn mended(r: &mut Random, command: &[String], i: usize, text: &[u8], file: &[u8]) -> &'static str {
+    let edited = mend::edited(r, file);
+    let (answer, should) = mend::mended(&edited);
+    let written = std::env::temp_dir().join(format!("mended-{}.graph", std::process::id()));
+    let _ = std::fs::remove_file(&written);
+    let (mut out, status) = asked_more(command, "mend", &[written.as_os_str().as_bytes()], &edited);
+    let is = std::fs::read(&written).ok();
+    let _ = std::fs::remove_file(&written);
+    if !answer.said.ends_with(b"\n") {
+        out.truncate(answer.said.len());
+    }
+    if out != answer.said {
+        differs(i, text, "another mend", &out, &answer.said);
+    }
+    if status != answer.digit {
+        differs(i, text, "another status of mend", &status, answer.digit);
+    }
+    if is != should {
+        differs(i, text, "another mended file", &is.unwrap_or_default(), &should.unwrap_or_default());
+    }
+    answer.row
+}
+
 fn differs(i: usize, text: &[u8], what: &str, is: &[u8], should: &[u8]) -> ! {
     let kept = std::env::temp_dir().join("board.txt");
     let _ = std::fs::write(&kept, text);
@@ -127,12 +152,13 @@ fn main() {
     let mut rows: BTreeMap<&str, usize> = BTreeMap::new();
     for sample in ["samples/case-a.txt", "samples/board.txt"] {
         let text = std::fs::read(sample).expect("the sample is there");
-        let Given::File { bytes, names } = given("-", &text) else {
+        let Given::File { bytes, names, types } = given("-", &text) else {
             panic!("{sample} is not accepted");
         };
         for i in 0..20 {
             planned(&mut r, command, i, &text, &bytes, &names);
             beside(&mut r, command, i, &text, &bytes, &names);
+            mended(&mut r, command, i, &text, &bytes);
         }
     }
     for i in 0..count {
@@ -142,9 +168,9 @@ fn main() {
             continue;
         }
         let (out, status) = asked(command, "graph", &text);
-        let (row, should, names, digit): (&str, Vec<u8>, Vec<Vec<u8>>, &[u8]) = match given("-", &text) {
-            Given::File { bytes, names } => ("accepted", bytes, names, b"0"),
-            Given::No { row, said } => (row, said.chars().map(|c| c as u8).collect(), vec![], b"1"),
+        let (row, should, [names, types], digit): (&str, Vec<u8>, [Vec<Vec<u8>>; 2], &[u8]) = match given("-", &text) {
+            Given::File { bytes, names, types } => ("accepted", bytes, [names, types], b"0"),
+            Given::No { row, said } => (row, said.chars().map(|c| c as u8).collect(), [vec![], vec![]], b"1"),
         };
         *rows.entry(row).or_default() += 1;
         if out != should {
@@ -156,6 +182,8 @@ fn main() {
         if digit == b"0" {
             *rows.entry(planned(&mut r, command, i, &text, &out, &names)).or_default() += 1;
             *rows.entry(beside(&mut r, command, i, &text, &out, &names)).or_default() += 1;
+            let row = mended(&mut r, command, i, &text, &out);
+            *rows.entry(row).or_default() += 1;
         }
         // the file's text, and the text's own: both give the file again
         if digit == b"0" && i % 8 == 0 {
@@ -171,9 +199,9 @@ fn main() {
     let seen: Vec<String> = rows.iter().map(|(row, n)| format!("{row} {n}")).collect();
     eprintln!("{count} board texts, no difference: {}", seen.join(", "));
     let wanted = [
-        "11", "4", "5", "6", "7", "7 WCET", "7 stage", "9", "STAGE large", "STAGE no number", "WCET large",
-        "WCET no number", "a larger WCET", "a new edge", "accepted", "altered", "another type", "byte", "extra", "fewer cores", "fewer edges", "gains", "large", "long line", "long name", "long text", "many",
-        "many waits", "missing", "no number", "no second", "no stage", "no type", "other stages", "other types", "promise", "twice", "waits twice",
+        "11", "4", "5", "6", "7", "7 WCET", "7 stage", "9", "STAGE large", "STAGE no number", 
+        "WCET large", "WCET no number", "a larger WCET", "a new edge", "accepted", "altered", "another type", "byte", "extra", "fewer cores", "fewer edges", "gains", "large", "long line", "long name", "long text", "many",
+        "many waits", "mend 1", "mend 2", "mend 3", "mended", "missing", "no number", "no second", "no stage", "no type", "nothing to mend", "other stages", "other types", "promise", "twice", "waits twice",
     ];
     // few texts need not reach everything
     for row in wanted {

@@ -1,9 +1,9 @@
 //! What a board text gives, written from docs/BOARD.md alone: a graph file, or the lines that say what is wrong.
 use std::collections::HashMap;
 
-/// The file's bytes and the stages' names; or what is printed, with the row of docs/BOARD.md that it is.
+/// The file's bytes, the stages' names and the types'; or what is printed, with the row of docs/BOARD.md that it is.
 pub enum Given {
-    File { bytes: Vec<u8>, names: Vec<Vec<u8>> },
+    File { bytes: Vec<u8>, names: Vec<Vec<u8>>, types: Vec<Vec<u8>> },
     No { row: &'static str, said: String },
 }
 
@@ -235,5 +235,9 @@ pub fn given(name: &str, text: &[u8]) -> Given {
     for &(u, v) in &edges {
         bytes.extend(record(0x45, u, v, 0));
     }
-    Given::File { bytes, names: stages.into_iter().map(|s| s.name).collect() }
+    Given::File {
+        bytes,
+        names: stages.into_iter().map(|s| s.name).collect(),
+        types: kinds.into_iter().map(|k| k.name).collect(),
+    }
 }

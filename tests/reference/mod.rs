@@ -2,7 +2,8 @@
 //!
 //! It is the witness that the proved planner is compared with, so it takes other ways wherever there are any: a
 //! search in depth for the cycle, sums in topological order, whole paths compared as lists, complete paths by their
-//! numbers, a run as a queue of finishes, a log by the instants that it tells of. Read in this order:
+//! numbers, a run as a queue of finishes, a log by the instants that it tells of, edges in order by a tree of their ends,
+//! every number of cores in turn. Read in this order:
 //!
 //!   refusal   a number and a place
 //!   graph     an accepted graph
@@ -18,14 +19,18 @@
 //!   log       what the log of a frame says, and the log of a list schedule
 //!   replay    which logs are work-conserving schedules (18 to 22)
 //!   stg       Standard Task Graph text, read (23) and written (24)
+//!   mend      a hand-edited file mended, and the list of what was done
+//!   enough    the smallest number of cores with which a limit is met (25, 26)
 //!   sheet     the program's text
 
 pub mod bounds;
+pub mod enough;
 pub mod gains;
 pub mod graph;
 pub mod judge;
 pub mod late;
 pub mod log;
+pub mod mend;
 pub mod order;
 pub mod reader;
 pub mod record;

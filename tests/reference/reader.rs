@@ -3,27 +3,37 @@
 use super::graph::{Graph, LONGEST_FILE, RECORD};
 use super::judge::{judge, Declared, DeclaredKind, DeclaredVertex};
 use super::refusal::{refuse_first, refuse_if, Refusal};
+use std::ops::Range;
 
 pub const KIND: u8 = 0x54;
 pub const VERTEX: u8 = 0x56;
 pub const EDGE: u8 = 0x45;
 
 pub fn read(file: &[u8]) -> Result<Graph, Refusal> {
-    refuse_if(1, file.len() % RECORD != 0 || file.len() > LONGEST_FILE)?;
-    let records: Vec<&[u8]> = file.chunks(RECORD).collect();
-    refuse_first(2, 0, records.iter().map(|r| is_stray(r)))?;
-    refuse_first(3, 0, (0..records.len()).map(|k| is_late(&records, k)))?;
+    let records = records_of(file)?;
+    refuse_first(2, 0, records.iter().map(|r| spare(r).is_none_or(|bytes| r[bytes].iter().any(|&b| b != 0))))?;
+    judge_order(&records)?;
     judge(&declared(&records))
 }
 
-/// Byte 0 of no known kind, or a byte set that must be 0.
-fn is_stray(record: &[u8]) -> bool {
-    let spare = match record[0] {
-        KIND | EDGE => 3..8,
-        VERTEX => 3..4,
-        _ => return true,
-    };
-    record[spare].iter().any(|&b| b != 0)
+/// Number 1.
+pub fn records_of(file: &[u8]) -> Result<Vec<&[u8]>, Refusal> {
+    refuse_if(1, file.len() % RECORD != 0 || file.len() > LONGEST_FILE)?;
+    Ok(file.chunks(RECORD).collect())
+}
+
+/// The bytes of a record that must be 0; none where byte 0 is of no known kind.
+pub fn spare(record: &[u8]) -> Option<Range<usize>> {
+    match record[0] {
+        KIND | EDGE => Some(3..8),
+        VERTEX => Some(3..4),
+        _ => None,
+    }
+}
+
+/// Number 3.
+pub fn judge_order(records: &[&[u8]]) -> Result<(), Refusal> {
+    refuse_first(3, 0, (0..records.len()).map(|k| is_late(records, k)))
 }
 
 /// A type after any vertex or edge, or a vertex after any edge.

@@ -30,38 +30,6 @@ pub fn full(t: &[u8], names: Names, g: Graph) -> u8
     listed(t, names, &gain, g.n)
 }
 
-// Which stage of the board text is called so; as many as it has where none is.
-fn called(t: &[u8], names: Names, w: &[u8]) -> usize {
-    if !word::is_one(w) {
-        return names.stages;
-    }
-    let list = names.stage;
-    texts::find(t, &list, names.stages, w, 0)
-}
-
-// The row of what is wrong, and where nothing is the vertex.
-struct Named {
-    row: usize,
-    vertex: u32,
-}
-
-// The stage that an argument names: the one that is called so, else the one of this number. Whether the graph has it is for the planner to say: a word
-// that could be a name, and is none of the board text's, is one past the last.
-fn stage_of(t: &[u8], names: Names, w: &[u8]) -> Named {
-    let v = called(t, names, w);
-    let row = word::fault(w);
-    if (v < names.stages) | ((row == faults::NO_NUMBER) & (names.stages > 0)) {
-        return Named {
-            row: faults::FINE,
-            vertex: (v % 4294967296) as u32,
-        };
-    }
-    Named {
-        row,
-        vertex: word::number(w),
-    }
-}
-
 // What the planner's refusal is about: a stage that the graph doesn't have, at 0, or else a WCET above the limit, at the stage's record.
 fn reason(stage: &[u8], r: Refusal) -> bool {
     if r.place == 0 {
@@ -89,7 +57,8 @@ fn answer(t: &[u8], names: Names, file: &[u8], n: usize, stage: &[u8], vertex: u
 fn with_words(t: &[u8], names: Names, g: Graph, file: &[u8], stage: &[u8], wcet: &[u8]) -> u8
     requires { ⌜ AcceptedGraph g ⌝ }
 {
-    let v = stage_of(t, names, stage);
+    let places = names.stage;
+    let v = word::named(t, &places, names.stages, stage);
     if v.row != faults::FINE {
         let said = reasons::fault::said_argument(b"STAGE", v.row, stage);
         return input::status(said, input::NO);
@@ -99,7 +68,7 @@ fn with_words(t: &[u8], names: Names, g: Graph, file: &[u8], stage: &[u8], wcet:
         let said = reasons::fault::said_argument(b"WCET", row, wcet);
         return input::status(said, input::NO);
     }
-    answer(t, names, file, g.n, stage, v.vertex, word::number(wcet))
+    answer(t, names, file, g.n, stage, v.number, word::number(wcet))
 }
 
 // The gains with the WCET of one stage altered.

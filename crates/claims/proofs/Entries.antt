@@ -24,15 +24,20 @@ use Rattle.schedule.specs.Tick.{tickOf}
 use Rattle.schedule.specs.Whole.{playOf, finishesOf}
 use Rattle.schedule.specs.declared.Started.{Started}
 use Rattle.schedule.specs.declared.Played.{Played}
-use Rattle.codes.specs.Coded.{codedGraph, codedWrote, BoundsCoded, SecondCoded, PathCoded, GainsCoded, AlteredCoded}
+use Rattle.codes.specs.Coded.{codedGraph, codedWrote, codedMend, BoundsCoded, SecondCoded, EnoughCoded, PathCoded, GainsCoded, AlteredCoded}
 use Rattle.late.specs.Answers.{LateOf}
 use Rattle.late.specs.declared.Lateness.{Lateness}
+use Rattle.enough.specs.Answers.{EnoughOf}
+use Rattle.enough.specs.declared.Fewest.{Fewest}
 use Rattle.replay.specs.Answers.{replayOf, timesAfter}
 use Rattle.replay.specs.declared.Replayed.{Replayed}
 use Rattle.logs.specs.Answers.{loggedOf, logRoom}
+use Rattle.mends.specs.Answers.{mendOf, fileAfter, listAfter}
+use Rattle.mends.specs.declared.Mended.{Mended}
 use Rattle.stg_text.specs.Answers.{readStgOf, readRoom, writeStgOf, writeRoom}
 use Rattle.codes.specs.CodedRun.{codedStart, codedReport, codedTick, codedPlay, codedReplay, LateCoded}
 use Rattle.codes.specs.declared.PlannerGraph.{PlannerGraph}
+use Rattle.codes.specs.declared.PlannerEnough.{PlannerEnough}
 use Rattle.codes.specs.declared.PlannerCount.{PlannerCount}
 use Rattle.codes.specs.declared.PlannerBounds.{PlannerBounds}
 use Rattle.codes.specs.declared.PlannerSecond.{PlannerSecond}
@@ -41,7 +46,8 @@ use Rattle.codes.specs.declared.PlannerMoved.{PlannerMoved}
 use Rattle.codes.specs.declared.PlannerTick.{PlannerTick}
 use Rattle.codes.specs.declared.PlannerFinish.{PlannerFinish}
 use Rattle.codes.specs.declared.PlannerLate.{PlannerLate}
-use Rattle.claims.specs.Entries.{ReadGives, WriteGives, BoundsGives, SecondGives, PathGives, GainsGives, AlteredGives, StartGives, TickGives, TickInPlaceGives, RunGives, LateGives, ReplayGives, LogGives, StgReadGives, StgWriteGives, PlannerReadGives, PlannerWriteGives, PlannerBoundsGives, PlannerSecondGives, PlannerPathGives, PlannerGainsGives, PlannerAlteredGives, PlannerStartGives, PlannerTickGives, PlannerTickInPlaceGives, PlannerRunGives, PlannerLateGives, PlannerReplayGives, PlannerLogGives, PlannerStgReadGives, PlannerStgWriteGives}
+use Rattle.codes.specs.declared.PlannerMended.{PlannerMended}
+use Rattle.claims.specs.Entries.{ReadGives, WriteGives, BoundsGives, SecondGives, PathGives, GainsGives, AlteredGives, StartGives, TickGives, TickInPlaceGives, RunGives, LateGives, EnoughGives, ReplayGives, LogGives, StgReadGives, StgWriteGives, MendGives, PlannerReadGives, PlannerWriteGives, PlannerBoundsGives, PlannerSecondGives, PlannerPathGives, PlannerGainsGives, PlannerAlteredGives, PlannerStartGives, PlannerTickGives, PlannerTickInPlaceGives, PlannerRunGives, PlannerLateGives, PlannerEnoughGives, PlannerReplayGives, PlannerLogGives, PlannerStgReadGives, PlannerStgWriteGives, PlannerMendGives}
 
 pub read-given : {s : List ℕ} {t : Taken} → ReadGives s t → t ≡ readOf s
 read-given h = sym (h .as-seen .1) ∙ h .ensured ∙ ap readOf (h .as-seen .0)
@@ -127,6 +133,9 @@ planner-run-given h = let i = h .as-seen in rw (← i .0, ← i .1, ← i .2, �
 pub late-given : {s e : List ℕ} {d : ℕ} {r : Lateness} → LateGives s e d r → LateOf s e d r
 late-given h = let i = h .as-seen in rw (← i .0, ← i .1, ← i .2, ← i .3) (h .ensured)
 
+pub enough-given : {s : List ℕ} {k d : ℕ} {r : Fewest} → EnoughGives s k d r → EnoughOf s k d r
+enough-given h = let i = h .as-seen in rw (← i .0, ← i .1, ← i .2, ← i .3) (h .ensured)
+
 pub planner-late-given : {s e : List ℕ} {d : ℕ} {r : PlannerLate} → PlannerLateGives s e d r → LateCoded s e d r
 planner-late-given h = let i = h .as-seen in rw (← i .0, ← i .1, ← i .2, ← i .3) (h .ensured)
 
@@ -158,3 +167,14 @@ planner-stg-read-given h = let i = h .as-seen in rw (← i .0, ← i .1, ← i .
 pub planner-stg-write-given : {s old new : List ℕ} {w : PlannerCount} → PlannerStgWriteGives s old w new
     → (w ≡ codedWrote (writeStgOf s (length old))) × (new ≡ writeRoom s old)
 planner-stg-write-given h = let i = h .as-seen in rw (← i .0, ← i .1, ← i .2, ← i .3) (h .ensured)
+
+pub mend-given : {s old list new list′ : List ℕ} {m : Mended} → MendGives s old list m new list′
+    → (m ≡ mendOf s (length old) (length list)) × (new ≡ fileAfter s old list) × (list′ ≡ listAfter s old list)
+mend-given h = let i = h .as-seen in rw (← i .0, ← i .1, ← i .2, ← i .3, ← i .4, ← i .5) (h .ensured)
+
+pub planner-mend-given : {s old list new list′ : List ℕ} {m : PlannerMended} → PlannerMendGives s old list m new list′
+    → (m ≡ codedMend (mendOf s (length old) (length list))) × (new ≡ fileAfter s old list) × (list′ ≡ listAfter s old list)
+planner-mend-given h = let i = h .as-seen in rw (← i .0, ← i .1, ← i .2, ← i .3, ← i .4, ← i .5) (h .ensured)
+
+pub planner-enough-given : {s : List ℕ} {k d : ℕ} {r : PlannerEnough} → PlannerEnoughGives s k d r → EnoughCoded s k d r
+planner-enough-given h = let i = h .as-seen in rw (← i .0, ← i .1, ← i .2, ← i .3) (h .ensured)

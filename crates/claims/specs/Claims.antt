@@ -20,10 +20,16 @@
 --                              its first N places, and is otherwise as it was
 --   TimesLent s l old new      the list new, which was old, has in its first N places how long each vertex ran in the log l, and is otherwise
 --                              as it was
+--   MendAnswered s old list m new list′
+--                              the answer of `mend`: 1 at 0; else 2 at the first record of an unknown kind; else 3 at the first that comes after
+--                              one of a later kind; else 15 at 0, where the mended buffer is shorter than the file or the list's has under 16
+--                              bytes for each record. Each leaves both buffers as they were. Else how long the mended file and the list are, which
+--                              stand in front of what stood there
 use mathlib.Core.Path.{_≡_}
-use mathlib.Core.Bool.{false}
+use mathlib.Core.Logic.{_⊎_}
+use mathlib.Core.Bool.{true, false}
 use mathlib.Core.List.{List, _++_}
-use Prim.Native.Nat.{ℕ, _≤_, _<_}
+use Prim.Native.Nat.{ℕ, _*_, _≤_, _<_}
 use lib.ListN.{getD, length, drop}
 use Rattle.model.specs.Graph.{Graph}
 use Rattle.model.specs.Cycle.{Walk, Acyclic}
@@ -31,9 +37,9 @@ use Rattle.model.specs.Bounds.{ThePath}
 use Rattle.model.specs.Gain.{GainOf}
 use Rattle.model.specs.Schedule.{Schedule, FinishOf, Finish}
 use Rattle.model.specs.ListSchedule.{begin, steps, listSchedule}
-use Rattle.graph.specs.File.{graphOf, noGraph}
+use Rattle.graph.specs.File.{records, graphOf, noGraph}
 use Rattle.graph.specs.Model.{asModel}
-use Rattle.graph.specs.Rules.{holds, places}
+use Rattle.graph.specs.Rules.{holds, places, rule1, rule3}
 use Rattle.graph.specs.Judge.{readOf, Rightly}
 use Rattle.graph.specs.declared.Refusal.{Refusal}
 use Rattle.graph.specs.declared.Taken.{Taken}
@@ -42,6 +48,11 @@ use Rattle.writer.specs.Lists.{Lists}
 use Rattle.writer.specs.Write.{fileOf}
 use Rattle.writer.specs.declared.Wrote.{Wrote}
 use Rattle.writer.specs.declared.Wrote.the-variants.{Bytes as Wrote-bytes, Refused as NotWritten}
+use Rattle.mends.specs.Mended.{mendedOf}
+use Rattle.mends.specs.Listed.{listOf}
+use Rattle.mends.specs.Answers.{unknown, Mendable}
+use Rattle.mends.specs.declared.Mended.{Mended}
+use Rattle.mends.specs.declared.Mended.the-variants.{Lengths, Refused as NotMended}
 use Rattle.tick.specs.Run.{recordOf}
 use Rattle.tick.specs.declared.Run.{Run}
 use Rattle.times.specs.Times.{timesOf}
@@ -89,6 +100,16 @@ pub data WriteAnswered (g : Lists) (old : List ℕ) : Wrote → List ℕ → Typ
   narrow : length (g .kinds) ≡ length (g .wcets) → NoneFrom 4 12 (fileOf g) → length old < length (fileOf g) → WriteAnswered g old (NotWritten (at-0 15)) old
   wrote : length (g .kinds) ≡ length (g .wcets) → NoneFrom 4 12 (fileOf g) → length (fileOf g) ≤ length old
       → WriteAnswered g old (Wrote-bytes (length (fileOf g))) (fileOf g ++ drop (length (fileOf g)) old)
+
+pub data MendAnswered (s old list : List ℕ) : Mended → List ℕ → List ℕ → Type 0 where
+  uneven : rule1 s ≡ true → MendAnswered s old list (NotMended (at-0 1)) old list
+  of-no-kind : {k : ℕ} → rule1 s ≡ false → k < records s → unknown s k ≡ true → ((j : ℕ) → j < k → unknown s j ≡ false)
+      → MendAnswered s old list (NotMended (record { number = 2; place = k })) old list
+  out-of-order : {k : ℕ} → rule1 s ≡ false → ((j : ℕ) → j < records s → unknown s j ≡ false) → k < records s → rule3 s k ≡ true
+      → ((j : ℕ) → j < k → rule3 s j ≡ false) → MendAnswered s old list (NotMended (record { number = 3; place = k })) old list
+  narrow : Mendable s → (length old < length s) ⊎ (length list < 16 * records s) → MendAnswered s old list (NotMended (at-0 15)) old list
+  mended : Mendable s → length s ≤ length old → 16 * records s ≤ length list
+      → MendAnswered s old list (Lengths (record { file = length (mendedOf s); list = length (listOf s) })) (mendedOf s ++ drop (length (mendedOf s)) old) (listOf s ++ drop (length (listOf s)) list)
 
 pub record PathLent (s old new : List ℕ) (n : ℕ) : Type 0 where
   pub path : List ℕ

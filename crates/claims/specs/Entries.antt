@@ -13,10 +13,12 @@
 --   TickInPlaceGives s r x r′        `tick_in_place`: the report, and the caller's record from r to r′
 --   RunGives s e old p new           `run`: the answer for the file s and the times e, and the lent list from old to new
 --   LateGives s e d r                `late`: the answer for the file s, the times e and the tick d
+--   EnoughGives s k d r              `enough`: the answer for the file s, the type k and the limit d
 --   ReplayGives s l old r new        `replay`: the answer for the file s and the log l, and the lent list from old to new
 --   LogGives s e old w new           `log`: the answer for the file s and the times e, and the lent room from old to new
 --   StgReadGives t cores kinds old w new   `stg::read`: the answer for the text t with these lists, and the lent room from old to new
 --   StgWriteGives s old w new        `stg_writer::write`: the answer for the file s, and the lent room from old to new
+--   MendGives s old list m new list′      `mend`: the answer for the file s, and the lent buffers from old to new and from list to list′
 --   PlannerReadGives s r, ..         the same of the entries for C and Rust
 --
 -- Of functions inside, which rest on what their `requires` says:
@@ -79,6 +81,9 @@ use Rattle.leaps.proofs.until.Reads as until-reads
 use Rattle.late.specs.declared.Lateness.{Lateness}
 use Rattle.late.proofs.late as late
 use Rattle.late.proofs.late.Reads as late-reads
+use Rattle.enough.specs.declared.Fewest.{Fewest}
+use Rattle.enough.proofs.enough as enough
+use Rattle.enough.proofs.enough.Reads as enough-reads
 use Rattle.replay.specs.declared.Replayed.{Replayed}
 use Rattle.replay.proofs.replay as replay
 use Rattle.replay.proofs.replay.Reads as replay-reads
@@ -88,6 +93,9 @@ use Rattle.stg.proofs.read as stg-read
 use Rattle.stg.proofs.read.Reads as stg-read-reads
 use Rattle.stg_writer.proofs.write as stg-write
 use Rattle.stg_writer.proofs.write.Reads as stg-write-reads
+use Rattle.mends.specs.declared.Mended.{Mended}
+use Rattle.mend.proofs.mend as mend
+use Rattle.mend.proofs.mend.Reads as mend-reads
 use Rattle.codes.specs.declared.PlannerGraph.{PlannerGraph}
 use Rattle.codes.specs.declared.PlannerCount.{PlannerCount}
 use Rattle.codes.specs.declared.PlannerBounds.{PlannerBounds}
@@ -97,6 +105,8 @@ use Rattle.codes.specs.declared.PlannerMoved.{PlannerMoved}
 use Rattle.codes.specs.declared.PlannerTick.{PlannerTick}
 use Rattle.codes.specs.declared.PlannerFinish.{PlannerFinish}
 use Rattle.codes.specs.declared.PlannerLate.{PlannerLate}
+use Rattle.codes.specs.declared.PlannerMended.{PlannerMended}
+use Rattle.codes.specs.declared.PlannerEnough.{PlannerEnough}
 use Rattle.planner.proofs.planner_read as planner-read
 use Rattle.planner.proofs.planner_read.Reads as planner-read-reads
 use Rattle.planner.proofs.planner_write as planner-write
@@ -128,6 +138,10 @@ use Rattle.planner.proofs.planner_stg_read as planner-stg-read
 use Rattle.planner.proofs.planner_stg_read.Reads as planner-stg-read-reads
 use Rattle.planner.proofs.planner_stg_write as planner-stg-write
 use Rattle.planner.proofs.planner_stg_write.Reads as planner-stg-write-reads
+use Rattle.planner.proofs.planner_enough as planner-enough
+use Rattle.planner.proofs.planner_enough.Reads as planner-enough-reads
+use Rattle.planner.proofs.planner_mend as planner-mend
+use Rattle.planner.proofs.planner_mend.Reads as planner-mend-reads
 use Rattle.planner.proofs.Outcomes.{planner-tick-in-place-stated}
 
 abbrev pub ReadGives : List ℕ → Taken → Type 0
@@ -174,7 +188,8 @@ RunGives s e old p new =
 abbrev pub LateGives : List ℕ → List ℕ → ℕ → Lateness → Type 0
 LateGives s e d r = Allows late.ended late-reads.Post (λ κs a x w. (now (a .0) ≡ s) × (now (a .1 .0) ≡ e) × (a .1 .1 .0 ≡ d) × (x ≡ r))
 
--- ---- inside
+abbrev pub EnoughGives : List ℕ → ℕ → ℕ → Fewest → Type 0
+EnoughGives s k d r = Allows enough.ended enough-reads.Post (λ κs a x w. (now (a .0) ≡ s) × (a .1 .0 ≡ k) × (a .1 .1 .0 ≡ d) × (x ≡ r))
 
 abbrev pub ReplayGives : List ℕ → List ℕ → List ℕ → Replayed → List ℕ → Type 0
 ReplayGives s l old r new =
@@ -185,6 +200,11 @@ abbrev pub LogGives : List ℕ → List ℕ → List ℕ → Wrote → List ℕ 
 LogGives s e old w new =
     Allows log.ended log-reads.Post (λ κs a r x. (now (a .0) ≡ s) × (now (a .1 .0) ≡ e) × (now (a .1 .1 .0) ≡ old) × (r ≡ w) × (now (x .1 .1 .0) ≡ new))
 
+abbrev pub MendGives : List ℕ → List ℕ → List ℕ → Mended → List ℕ → List ℕ → Type 0
+MendGives s old list m new list′ =
+    Allows mend.ended mend-reads.Post
+    (λ κs a r x. (now (a .0) ≡ s) × (now (a .1 .0) ≡ old) × (now (a .1 .1 .0) ≡ list) × (r ≡ m) × (now (x .1 .0) ≡ new) × (now (x .1 .1 .0) ≡ list′))
+
 abbrev pub StgReadGives : List ℕ → List ℕ → List ℕ → List ℕ → Wrote → List ℕ → Type 0
 StgReadGives t cores kinds old w new =
     Allows stg-read.ended stg-read-reads.Post
@@ -193,6 +213,8 @@ StgReadGives t cores kinds old w new =
 abbrev pub StgWriteGives : List ℕ → List ℕ → Wrote → List ℕ → Type 0
 StgWriteGives s old w new =
     Allows stg-write.ended stg-write-reads.Post (λ κs a r x. (now (a .0) ≡ s) × (now (a .1 .0) ≡ old) × (r ≡ w) × (now (x .1 .0) ≡ new))
+
+-- ---- inside
 
 abbrev pub AfreshGives : List ℕ → List ℕ → List ℕ → ℕ → List ℕ → Summary → Type 0
 AfreshGives e st o n w r =
@@ -264,6 +286,10 @@ abbrev pub PlannerLateGives : List ℕ → List ℕ → ℕ → PlannerLate → 
 PlannerLateGives s e d r =
     Allows planner-late.ended planner-late-reads.Post (λ κs a x w. (now (a .0) ≡ s) × (now (a .1 .0) ≡ e) × (a .1 .1 .0 ≡ d) × (x ≡ r))
 
+abbrev pub PlannerEnoughGives : List ℕ → ℕ → ℕ → PlannerEnough → Type 0
+PlannerEnoughGives s k d r =
+    Allows planner-enough.ended planner-enough-reads.Post (λ κs a x w. (now (a .0) ≡ s) × (a .1 .0 ≡ k) × (a .1 .1 .0 ≡ d) × (x ≡ r))
+
 abbrev pub PlannerReplayGives : List ℕ → List ℕ → List ℕ → PlannerFinish → List ℕ → Type 0
 PlannerReplayGives s l old r new =
     Allows planner-replay.ended planner-replay-reads.Post
@@ -273,6 +299,11 @@ abbrev pub PlannerLogGives : List ℕ → List ℕ → List ℕ → PlannerCount
 PlannerLogGives s e old w new =
     Allows planner-log.ended planner-log-reads.Post
     (λ κs a r x. (now (a .0) ≡ s) × (now (a .1 .0) ≡ e) × (now (a .1 .1 .0) ≡ old) × (r ≡ w) × (now (x .1 .1 .0) ≡ new))
+
+abbrev pub PlannerMendGives : List ℕ → List ℕ → List ℕ → PlannerMended → List ℕ → List ℕ → Type 0
+PlannerMendGives s old list m new list′ =
+    Allows planner-mend.ended planner-mend-reads.Post
+    (λ κs a r x. (now (a .0) ≡ s) × (now (a .1 .0) ≡ old) × (now (a .1 .1 .0) ≡ list) × (r ≡ m) × (now (x .1 .0) ≡ new) × (now (x .1 .1 .0) ≡ list′))
 
 abbrev pub PlannerStgReadGives : List ℕ → List ℕ → List ℕ → List ℕ → PlannerCount → List ℕ → Type 0
 PlannerStgReadGives t cores kinds old w new =

@@ -5,10 +5,14 @@ use Rattle.codes.proofs.coded_graph as coded-graph
 use Rattle.codes.proofs.coded_graph.Reads as coded-graph-reads
 use Rattle.codes.proofs.coded_wrote as coded-wrote
 use Rattle.codes.proofs.coded_wrote.Reads as coded-wrote-reads
+use Rattle.codes.proofs.coded_mend as coded-mend
+use Rattle.codes.proofs.coded_mend.Reads as coded-mend-reads
 use Rattle.codes.proofs.coded_bounds as coded-bounds
 use Rattle.codes.proofs.coded_bounds.Reads as coded-bounds-reads
 use Rattle.codes.proofs.coded_second as coded-second
 use Rattle.codes.proofs.coded_second.Reads as coded-second-reads
+use Rattle.codes.proofs.coded_enough as coded-enough
+use Rattle.codes.proofs.coded_enough.Reads as coded-enough-reads
 use Rattle.codes.proofs.coded_gains as coded-gains
 use Rattle.codes.proofs.coded_gains.Reads as coded-gains-reads
 use Rattle.codes.proofs.coded_path as coded-path
@@ -32,11 +36,17 @@ coded-graph-one κs a r r′ ws ws′ pre p q = (p ∙ sym q, refl)
 pub coded-wrote-one : OneOutcome coded-wrote.ended coded-wrote-reads.Pre coded-wrote-reads.Post
 coded-wrote-one κs a r r′ ws ws′ pre p q = (p ∙ sym q, refl)
 
+pub coded-mend-one : OneOutcome coded-mend.ended coded-mend-reads.Pre coded-mend-reads.Post
+coded-mend-one κs a r r′ ws ws′ pre p q = (p ∙ sym q, refl)
+
 pub coded-bounds-one : OneOutcome coded-bounds.ended coded-bounds-reads.Pre coded-bounds-reads.Post
 coded-bounds-one κs a r r′ ws ws′ pre p q = (p ∙ sym q, refl)
 
 pub coded-second-one : OneOutcome coded-second.ended coded-second-reads.Pre coded-second-reads.Post
 coded-second-one κs a r r′ ws ws′ pre p q = (p ∙ sym q, refl)
+
+pub coded-enough-one : OneOutcome coded-enough.ended coded-enough-reads.Pre coded-enough-reads.Post
+coded-enough-one κs a r r′ ws ws′ pre p q = (p ∙ sym q, refl)
 
 pub coded-gains-one : OneOutcome coded-gains.ended coded-gains-reads.Pre coded-gains-reads.Post
 coded-gains-one κs a r r′ ws ws′ pre p q = (p ∙ sym q, refl)

@@ -3,15 +3,17 @@
 ghost use mathlib.Core.Path.{_≡_};
 ghost use Rattle.model.specs.Places.{bit};
 ghost use Rattle.graph.specs.Said.{ofAnswer};
-ghost use Rattle.codes.specs.Coded.{codedGraph, codedWrote, codedPath, codedGains, codedBounds, codedSecond};
+ghost use Rattle.codes.specs.Coded.{codedGraph, codedWrote, codedMend, codedPath, codedGains, codedBounds, codedSecond, codedEnough};
 ghost use Rattle.codes.specs.CodedRun.{codedStart, codedReport, codedTick, codedPlay, codedLate, codedReplay};
 use bounds::Bounded;
 use bounds::Pathed;
+use enough::Fewest;
 use gains::Gained;
 use graph::Answer;
 use graph::Graph;
 use graph::Taken;
 use late::Lateness;
+use mends::Mended;
 use replay::Replayed;
 use schedule::Played;
 use schedule::Started;
@@ -37,6 +39,15 @@ pub struct PlannerCount {
     pub count: u64,
 }
 
+// How many bytes the mended file and the list of what was done have; both 0 beside a refusal.
+#[repr(C)]
+pub struct PlannerMended {
+    pub number: u32,
+    pub place: u32,
+    pub file: u64,
+    pub list: u64,
+}
+
 // Both bounds in parts of a tick, and NEW-B-1 in whole ticks; 0 beside a refusal.
 #[repr(C)]
 pub struct PlannerBounds {
@@ -53,6 +64,14 @@ pub struct PlannerSecond {
     pub number: u32,
     pub place: u32,
     pub parts: u64,
+}
+
+// The smallest number of cores that is enough; 0 beside a refusal.
+#[repr(C)]
+pub struct PlannerEnough {
+    pub number: u32,
+    pub place: u32,
+    pub cores: u64,
 }
 
 // A run record at instant 0; zero and unmarked throughout beside a refusal.
@@ -144,6 +163,25 @@ pub fn coded_wrote(wrote: Wrote) -> PlannerCount
     }
 }
 
+pub fn coded_mend(mended: Mended) -> PlannerMended
+    ensures { λ r. ⌜ r ≡ codedMend mended ⌝ }
+{
+    match mended {
+        Mended::Lengths(sizes) => PlannerMended {
+            number: 0,
+            place: 0,
+            file: sizes.file as u64,
+            list: sizes.list as u64,
+        },
+        Mended::Refused(refusal) => PlannerMended {
+            number: refusal.number,
+            place: refusal.place,
+            file: 0,
+            list: 0,
+        },
+    }
+}
+
 pub fn coded_bounds(bounded: Bounded) -> PlannerBounds
     ensures { λ r. ⌜ r ≡ codedBounds bounded ⌝ }
 {
@@ -165,6 +203,17 @@ pub fn coded_second(seconded: Seconded) -> PlannerSecond
         number: number(answer),
         place: place(answer),
         parts: seconded.parts.0,
+    }
+}
+
+pub fn coded_enough(fewest: Fewest) -> PlannerEnough
+    ensures { λ r. ⌜ r ≡ codedEnough fewest ⌝ }
+{
+    let answer = fewest.answer;
+    PlannerEnough {
+        number: number(answer),
+        place: place(answer),
+        cores: fewest.cores as u64,
     }
 }
 

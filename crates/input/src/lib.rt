@@ -18,7 +18,7 @@ pub struct Input {
 }
 
 // Says what failed, and why the system says that it did.
-fn trouble(what: &[u8]) -> u8 {
+pub fn trouble(what: &[u8]) -> u8 {
     io::write_all(2, b"plan: ");
     os::fail(what);
     TROUBLE

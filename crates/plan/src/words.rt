@@ -31,6 +31,8 @@ const TO_STG: u8 = 11;
 
 const COMPARE: u8 = 12;
 
+const MEND: u8 = 250;
+
 const FROM_STG: u8 = 251;
 
 const HELP: u8 = 252;
@@ -93,6 +95,9 @@ fn number(word: &[u8], n: usize) -> u8 {
     }
     if texts::equal(word, b"compare") {
         return if n == 4 { COMPARE } else { UNKNOWN };
+    }
+    if texts::equal(word, b"mend") {
+        return if n == 4 { MEND } else { UNKNOWN };
     }
     if n != 2 {
         return UNKNOWN;
@@ -196,6 +201,9 @@ fn row(word: u8) -> u8 {
     }
     if word == FROM_STG {
         return answers_stg::read();
+    }
+    if word == MEND {
+        return answers_mend::answer();
     }
     if has_two(word) & input::is_standard(2) & input::is_standard(3) {
         return input::wrong(b"standard input can't be the graph and what goes with it");

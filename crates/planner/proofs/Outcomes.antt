@@ -8,12 +8,14 @@ use Rattle.outcome.specs.Stated.{Stated}
 use Rattle.bounds.proofs.Unique.{bounds-unique, path-of-unique}
 use Rattle.second.proofs.Unique.{second-of-unique}
 use Rattle.late.proofs.Unique.{late-unique}
+use Rattle.enough.proofs.Unique.{enough-of-unique}
 use Rattle.gains.proofs.Unique.{gains-of-unique, altered-of-unique}
 use Rattle.schedule.specs.Tick.{tickOf}
-use Rattle.codes.specs.Coded.{codedBounds, codedSecond, codedPath, codedGains, BoundsCoded, SecondCoded, PathCoded, GainsCoded, AlteredCoded}
+use Rattle.codes.specs.Coded.{codedBounds, codedSecond, codedEnough, codedPath, codedGains, BoundsCoded, SecondCoded, EnoughCoded, PathCoded, GainsCoded, AlteredCoded}
 use Rattle.codes.specs.CodedRun.{codedReport, codedLate, LateCoded}
 use Rattle.codes.specs.declared.PlannerBounds.{PlannerBounds}
 use Rattle.codes.specs.declared.PlannerSecond.{PlannerSecond}
+use Rattle.codes.specs.declared.PlannerEnough.{PlannerEnough}
 use Rattle.codes.specs.declared.PlannerCount.{PlannerCount}
 use Rattle.codes.specs.declared.PlannerLate.{PlannerLate}
 use Rattle.planner.proofs.planner_read as read
@@ -24,6 +26,8 @@ use Rattle.planner.proofs.planner_bounds as bounds
 use Rattle.planner.proofs.planner_bounds.Reads as bounds-reads
 use Rattle.planner.proofs.planner_second as second
 use Rattle.planner.proofs.planner_second.Reads as second-reads
+use Rattle.planner.proofs.planner_enough as enough
+use Rattle.planner.proofs.planner_enough.Reads as enough-reads
 use Rattle.planner.proofs.planner_path as path
 use Rattle.planner.proofs.planner_path.Reads as path-reads
 use Rattle.planner.proofs.planner_gains as gains
@@ -43,6 +47,8 @@ use Rattle.planner.proofs.planner_replay as replay
 use Rattle.planner.proofs.planner_replay.Reads as replay-reads
 use Rattle.planner.proofs.planner_log as log
 use Rattle.planner.proofs.planner_log.Reads as log-reads
+use Rattle.planner.proofs.planner_mend as mend
+use Rattle.planner.proofs.planner_mend.Reads as mend-reads
 use Rattle.planner.proofs.planner_stg_read as stg-read
 use Rattle.planner.proofs.planner_stg_read.Reads as stg-read-reads
 use Rattle.planner.proofs.planner_stg_write as stg-write
@@ -73,6 +79,12 @@ second-coded-unique p q = p .coded ∙ ap codedSecond (second-of-unique (p .seco
 
 pub planner-second-one : OneOutcome second.ended second-reads.Pre second-reads.Post
 planner-second-one κs a r r′ ws ws′ pre p q = (second-coded-unique p q, refl)
+
+enough-coded-unique : {s : List ℕ} {k d : ℕ} {r r′ : PlannerEnough} → EnoughCoded s k d r → EnoughCoded s k d r′ → r ≡ r′
+enough-coded-unique p q = p .coded ∙ ap codedEnough (enough-of-unique (p .fewest) (q .fewest) (p .of) (q .of)) ∙ sym (q .coded)
+
+pub planner-enough-one : OneOutcome enough.ended enough-reads.Pre enough-reads.Post
+planner-enough-one κs a r r′ ws ws′ pre p q = (enough-coded-unique p q, refl)
 
 gains-coded-unique : {s old : List ℕ} {r r′ : PlannerCount} {new new′ : List ℕ} → GainsCoded s old r new → GainsCoded s old r′ new′
     → (r ≡ r′) × (new ≡ new′)
@@ -125,3 +137,7 @@ planner-stg-read-one κs a r r′ ws ws′ pre p q = (p .0 ∙ sym (q .0), λ i.
 
 pub planner-stg-write-one : OneOutcome stg-write.ended stg-write-reads.Pre stg-write-reads.Post
 planner-stg-write-one κs a r r′ ws ws′ pre p q = (p .0 ∙ sym (q .0), λ i. (tt, ((p .1 ∙ sym (q .1)) i, tt)))
+
+-- what was lent, at the end: nothing of the file, and the two buffers
+pub planner-mend-one : OneOutcome mend.ended mend-reads.Pre mend-reads.Post
+planner-mend-one κs a r r′ ws ws′ pre p q = (p .0 ∙ sym (q .0), λ i. (tt, ((p .1 ∙ sym (q .1)) i, ((p .2 ∙ sym (q .2)) i, tt))))

@@ -10,23 +10,28 @@ ghost use Rattle.schedule.specs.Tick.{tickOf};
 ghost use Rattle.schedule.specs.Whole.{playOf, finishesOf};
 ghost use Rattle.replay.specs.Answers.{replayOf, timesAfter};
 ghost use Rattle.logs.specs.Answers.{loggedOf, logRoom};
+ghost use Rattle.mends.specs.Answers.{mendOf, fileAfter, listAfter};
 ghost use Rattle.stg_text.specs.Answers.{readStgOf, readRoom, writeStgOf, writeRoom};
-ghost use Rattle.codes.specs.Coded.{codedGraph, codedWrote, BoundsCoded, SecondCoded, PathCoded, GainsCoded, AlteredCoded};
+ghost use Rattle.codes.specs.Coded.{codedGraph, codedWrote, codedMend, BoundsCoded, SecondCoded, EnoughCoded, PathCoded, GainsCoded, AlteredCoded};
 ghost use Rattle.codes.specs.CodedRun.{codedStart, codedReport, codedTick, codedPlay, codedReplay, LateCoded};
 ghost use Rattle.planner.specs.Stepped.{codedStep};
 use codes::PlannerBounds;
 use codes::PlannerCount;
+use codes::PlannerEnough;
 use codes::PlannerFinish;
 use codes::PlannerGraph;
 use codes::PlannerLate;
+use codes::PlannerMended;
 use codes::PlannerMoved;
 use codes::PlannerRun;
 use codes::PlannerSecond;
 use codes::PlannerTick;
 use codes::coded_bounds;
+use codes::coded_enough;
 use codes::coded_gains;
 use codes::coded_graph;
 use codes::coded_late;
+use codes::coded_mend;
 use codes::coded_path;
 use codes::coded_play;
 use codes::coded_replay;
@@ -69,6 +74,13 @@ pub extern "C" fn planner_second(file: &[u8]) -> PlannerSecond
     ensures { λ r. ⌜ SecondCoded (now (file .entry)) r ⌝ }
 {
     coded_second(second::second(file))
+}
+
+#[no_mangle]
+pub extern "C" fn planner_enough(file: &[u8], kind: u32, limit: u32) -> PlannerEnough
+    ensures { λ r. ⌜ EnoughCoded (now (file .entry)) kind limit r ⌝ }
+{
+    coded_enough(enough::enough(file, kind, limit))
 }
 
 #[no_mangle]
@@ -156,6 +168,13 @@ pub extern "C" fn planner_stg_write(file: &[u8], out: &mut [u8]) -> PlannerCount
     ensures { λ r. ⌜ (r ≡ codedWrote (writeStgOf (now (file .entry)) (length (now (out .entry))))) × (now (out .exit) ≡ writeRoom (now (file .entry)) (now (out .entry))) ⌝ }
 {
     coded_wrote(stg_writer::write(file, out))
+}
+
+#[no_mangle]
+pub extern "C" fn planner_mend(file: &[u8], out: &mut [u8], list: &mut [u8]) -> PlannerMended
+    ensures { λ r. ⌜ (r ≡ codedMend (mendOf (now (file .entry)) (length (now (out .entry))) (length (now (list .entry))))) × (now (out .exit) ≡ fileAfter (now (file .entry)) (now (out .entry)) (now (list .entry))) × (now (list .exit) ≡ listAfter (now (file .entry)) (now (out .entry)) (now (list .entry))) ⌝ }
+{
+    coded_mend(mend::mend(file, out, list))
 }
 
 // What the entry below stores, and what it hands back.

@@ -37,6 +37,7 @@ fn answer(letter: u8, p: &[u8]) {
         b'B' => probe_bounds::bounds_request(p),
         b'N' => probe_bounds::second_request(p),
         b'P' => probe_bounds::path_request(p),
+        b'C' => probe_bounds::enough_request(p),
         b'G' => probe_gains::gains_request(p),
         b'A' => probe_gains::altered_request(p),
         b'S' => probe_runs::start_request(p),
@@ -48,6 +49,7 @@ fn answer(letter: u8, p: &[u8]) {
         b'O' => probe_logs::log_request(p),
         b'U' => probe_stg::read_request(p),
         b'V' => probe_stg::write_request(p),
+        b'M' => probe_mend::mend_request(p),
         _ => print::bad(),
     }
 }

@@ -1,6 +1,7 @@
-// The letters B, N and P of the probe: the bounds of a file; its second bound; its path. Each takes a request's payload and prints the line that answers it.
+// The letters B, N, P and C of the probe: the bounds of a file; its second bound; its path; how many cores are enough. Each takes a request's payload and prints the line that answers it.
 use bounds::Bounded;
 use bounds::Pathed;
+use enough::Fewest;
 use graph::Answer;
 use second::Seconded;
 use wire::PRESET;
@@ -83,4 +84,29 @@ pub fn path_request(p: &[u8]) {
     let places = room.value as usize;
     let mut lent = [PRESET; 32768];
     path(&p[start..end], &mut lent[0..places])
+}
+
+fn fewest(r: Fewest) {
+    let a = r.answer;
+    said(a);
+    print::given(b"cores", r.cores as u64);
+    print::text(b"\n");
+}
+
+pub fn enough_request(p: &[u8]) {
+    let f = wire::list(p, 0);
+    let kind = wire::number(p, f.end);
+    let limit = wire::number(p, kind.end);
+    if !(f.good & kind.good & limit.good & (limit.end == p.len())) {
+        return print::bad();
+    }
+    if kind.value > 4294967295 {
+        return print::bad();
+    }
+    if limit.value > 4294967295 {
+        return print::bad();
+    }
+    let start = f.start;
+    let end = f.end;
+    fewest(enough::enough(&p[start..end], kind.value as u32, limit.value as u32))
 }

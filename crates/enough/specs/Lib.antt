@@ -1,0 +1,3 @@
+pub mod Answers
+-- What only private functions speak of.
+pub mod Halving

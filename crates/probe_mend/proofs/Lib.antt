@@ -1,0 +1,2 @@
+-- The public function's contract leaves one outcome:
+pub mod Outcomes
