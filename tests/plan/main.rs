@@ -1,8 +1,9 @@
 //! Board texts through `plan graph`, against what docs/BOARD.md says of them; and those that are accepted through `plan sheet`, `plan gains`,
-//! With an altered graph `plan compare` and with edited records `plan mend`, against the planner's reference.
+//! `plan enough`, with an altered graph `plan compare` and with edited records `plan mend`, against the planner's reference.
 //!
 //!   boards COUNT SEED COMMAND..     the command is the program `plan`, with its loader
 mod compare;
+mod enough;
 mod gains;
 mod generate;
 mod mend;
@@ -111,6 +112,25 @@ fn beside(r: &mut Random, command: &[String], i: usize, text: &[u8], file: &[u8]
     row
 }
 
+/// An accepted text or its file through `plan enough`.
+fn with_enough(r: &mut Random, command: &[String], i: usize, text: &[u8], file: &[u8], types: &[Vec<u8>]) -> &'static str {
+    let graph = planner::reader::read(file).expect("the graph was accepted");
+    let (input, types) = if r.below(3) == 0 { (file, &[][..]) } else { (text, types) };
+    let (kind, ticks) = (enough::some_type(r, &graph, types), enough::some_ticks(r, &graph));
+    let answer = enough::enough(&graph, types, &kind, &ticks);
+    let (mut out, status) = asked_more(command, "enough", &[&kind, &ticks], input);
+    if !answer.said.ends_with(b"\n") {
+        out.truncate(answer.said.len());
+    }
+    if out != answer.said {
+        differs(i, text, "another number of cores", &out, &answer.said);
+    }
+    if status != answer.digit {
+        differs(i, text, "another status of enough", &status, answer.digit);
+    }
+    answer.row
+}
+
 /// The file with some records edited through `plan mend`: what it says and what it writes, which is nothing where it is refused.
 fn mended(r: &mut Random, command: &[String], i: usize, text: &[u8], file: &[u8]) -> &'static str {
     let edited = mend::edited(r, file);
@@ -158,6 +178,7 @@ fn main() {
         for i in 0..20 {
             planned(&mut r, command, i, &text, &bytes, &names);
             beside(&mut r, command, i, &text, &bytes, &names);
+            with_enough(&mut r, command, i, &text, &bytes, &types);
             mended(&mut r, command, i, &text, &bytes);
         }
     }
@@ -182,7 +203,11 @@ fn main() {
         if digit == b"0" {
             *rows.entry(planned(&mut r, command, i, &text, &out, &names)).or_default() += 1;
             *rows.entry(beside(&mut r, command, i, &text, &out, &names)).or_default() += 1;
-            let row = mended(&mut r, command, i, &text, &out);
+            // each of these for every other text
+            let row = match r.below(2) {
+                0 => with_enough(&mut r, command, i, &text, &out, &types),
+                _ => mended(&mut r, command, i, &text, &out),
+            };
             *rows.entry(row).or_default() += 1;
         }
         // the file's text, and the text's own: both give the file again
@@ -199,8 +224,8 @@ fn main() {
     let seen: Vec<String> = rows.iter().map(|(row, n)| format!("{row} {n}")).collect();
     eprintln!("{count} board texts, no difference: {}", seen.join(", "));
     let wanted = [
-        "11", "4", "5", "6", "7", "7 WCET", "7 stage", "9", "STAGE large", "STAGE no number", 
-        "WCET large", "WCET no number", "a larger WCET", "a new edge", "accepted", "altered", "another type", "byte", "extra", "fewer cores", "fewer edges", "gains", "large", "long line", "long name", "long text", "many",
+        "11", "25", "26", "4", "5", "6", "7", "7 WCET", "7 stage", "9", "STAGE large", "STAGE no number", "TICKS large", "TICKS no number",
+        "TYPE large", "TYPE no number", "WCET large", "WCET no number", "a larger WCET", "a new edge", "accepted", "altered", "another type", "byte", "enough", "extra", "fewer cores", "fewer edges", "gains", "large", "long line", "long name", "long text", "many",
         "many waits", "mend 1", "mend 2", "mend 3", "mended", "missing", "no number", "no second", "no stage", "no type", "nothing to mend", "other stages", "other types", "promise", "twice", "waits twice",
     ];
     // few texts need not reach everything

@@ -16,6 +16,7 @@ pub mod Order8
 pub mod Order9
 pub mod Order11
 pub mod Order12
+pub mod Order13
 -- What they cite of this crate.
 pub mod Entries
 pub mod Judged

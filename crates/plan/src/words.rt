@@ -31,6 +31,8 @@ const TO_STG: u8 = 11;
 
 const COMPARE: u8 = 12;
 
+const ENOUGH: u8 = 13;
+
 const MEND: u8 = 250;
 
 const FROM_STG: u8 = 251;
@@ -96,6 +98,9 @@ fn number(word: &[u8], n: usize) -> u8 {
     if texts::equal(word, b"compare") {
         return if n == 4 { COMPARE } else { UNKNOWN };
     }
+    if texts::equal(word, b"enough") {
+        return if n == 5 { ENOUGH } else { UNKNOWN };
+    }
     if texts::equal(word, b"mend") {
         return if n == 4 { MEND } else { UNKNOWN };
     }
@@ -138,6 +143,7 @@ fn answered(word: u8, t: &[u8], names: Names, g: Graph, file: &[u8]) -> u8
         10 => answers_runs::recorded::timed(t, names, g, file),
         11 => answers_stg::written(file),
         12 => answers_compare::answer(t, names, g),
+        13 => answers_enough::fewest(t, names, file),
         _ => answers::sheet::answer(t, names, g),
     }
 }

@@ -23,6 +23,9 @@ pub fn page() -> bool {
   plan to-stg FILE       the Standard Task Graph text of a graph
   plan compare FILE FILE two boards: their sheets side by side, which numbers may
                          be compared, and whether these are proved not to rise
+  plan enough FILE TYPE TICKS
+                         how many cores of a type are enough for the bound to
+                         be within so many ticks, all else as declared
   plan mend FILE OUT     a hand-edited graph file mended, into the new file OUT, and
                          what was done
   plan graph FILE        the graph file of a board text
@@ -33,8 +36,8 @@ pub fn page() -> bool {
 
 FILE is a graph file or a board text (docs/FILE.md, docs/BOARD.md); - is
 standard input. With STAGE, the name or the number of a stage, and WCET, gains
-are those of the graph in which this stage has this WCET. OUT is a file that
-is not there yet. TIMES is a text of
+are those of the graph in which this stage has this WCET. TYPE is the name or
+the number of a type. OUT is a file that is not there yet. TIMES is a text of
 lines NAME TICKS, or of a number for each stage; without it each stage takes
 its WCET.
 
