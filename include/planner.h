@@ -57,7 +57,7 @@
 /* The list of what was done to mend a file, in bytes: two records at most for each record of the file. */
 #define PLANNER_LONGEST_MENDS 18592
 
-/* The stack that a call needs, in bytes, with its answer and what it is handed by value: no call needs more than 16,384. Measured over the
+/* The stack that a call needs, in bytes, with its answer and what it is handed by value: no call needs more than 20,480. Measured over the
    requests of tests/, which reach every limit and every refusal, and rounded up to pages of 4,096 bytes with 512 to spare at the least: no
    theorem bounds it, and docs/STACK.md has the measures. What a signal handler needs comes on top, and what the system's loader needs where
    memcpy or memset is bound at its first call. */
@@ -71,7 +71,7 @@
 #define PLANNER_STACK_RUN 12288
 #define PLANNER_STACK_GAINS 12288
 #define PLANNER_STACK_GAINS_ALTERED 16384
-#define PLANNER_STACK_SECOND 16384
+#define PLANNER_STACK_SECOND 20480
 #define PLANNER_STACK_LATE 12288
 #define PLANNER_STACK_REPLAY 12288
 #define PLANNER_STACK_LOG 12288

@@ -17,7 +17,7 @@ use Rattle.reader.specs.Laid.{Along}
 use Rattle.weights.specs.Weight.{weightBy, stages, Small}
 use Rattle.weights.specs.declared.Measure.{Measure}
 use Rattle.weights.specs.declared.Measure.the-variants.{Plain, Scaled}
-use Rattle.paths.specs.Ahead.{weigh, Weighed}
+use Rattle.paths.specs.Ahead.{weigh, Weighed, Sources}
 use Rattle.paths.proofs.Complete.{greatest-same, greatest-small}
 
 pub weighs : {w : List ℕ} (f : ℕ → ℕ) (n : ℕ) → w ≡ padded 128 f n → (v : ℕ) → v < n → weigh w v ≡ f v
@@ -50,10 +50,10 @@ module _ {g : Graph} (G : AcceptedGraph g) where
       light = λ v l. omega (arith, weights-are v l, most v l);
     }
 
-    module _ (x : ℕ) (largest : (h : Graph) → Weighed h (g .edge) st o (g .n) w → Greatest (asModel h) (along (weigh w)) x) where
+    module _ (l : List ℕ) (S : Sources g l) (x : ℕ) (largest : (h : Graph) → Weighed h (g .edge) st o (g .n) w → Sources h l → Greatest (asModel h) (along (weigh w)) x) where
       pub greatest-by : Greatest (asModel g) (along (weightBy by (asModel g))) x
       unfolding asModel
-      greatest-by = greatest-same (G .well-formed) (weigh w) (weightBy by (asModel g)) weights-are (largest g weighed-by)
+      greatest-by = greatest-same (G .well-formed) (weigh w) (weightBy by (asModel g)) weights-are (largest g weighed-by S)
 
       pub small-by : x ≤ c * 128
       unfolding asModel

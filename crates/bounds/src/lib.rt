@@ -4,6 +4,8 @@ ghost use Prim.Native.Nat.{_≤_};
 ghost use Rattle.model.specs.Bounds.{volume, NewB1};
 ghost use Rattle.graph.specs.Model.{AcceptedGraph, asModel};
 ghost use Rattle.graph.specs.declared.Answer.the-variants.{Accepted, Refused};
+ghost use Rattle.sets.specs.Sets.{Holds};
+ghost use Rattle.rows.specs.Rows.{predecessor};
 ghost use Rattle.reader.specs.Laid.{graphIn, Usable};
 ghost use Rattle.bounds.specs.Answers.{Figures, Nothing, BoundsOf, PathOf, PathIn};
 use graph::Answer;
@@ -46,7 +48,8 @@ pub fn bounds(file: &[u8]) -> Bounded
     let mut edge = [0u16; 1024];
     let mut starts = [0u16; 129];
     let mut order = [0u8; 128];
-    let h = reader::take(
+    let mut pred = [[0u64; 2]; 128];
+    let h = reader::take_rows(
         file,
         &mut cores,
         &mut kind,
@@ -54,11 +57,14 @@ pub fn bounds(file: &[u8]) -> Bounded
         &mut edge,
         &mut starts,
         &mut order,
+        &mut pred,
     );
     let answer = h.answer;
     match answer {
         Answer::Refused(refusal) => nothing(refusal),
-        Answer::Accepted => accepted::figures_of(h, &cores, &kind, &wcet, &edge, &starts, &order),
+        Answer::Accepted => {
+            accepted::figures_of(h, &cores, &kind, &wcet, &edge, &starts, &order, &pred)
+        }
     }
 }
 
@@ -78,7 +84,8 @@ pub fn path(file: &[u8], out: &mut [u8]) -> Pathed
     let mut edge = [0u16; 1024];
     let mut starts = [0u16; 129];
     let mut order = [0u8; 128];
-    let h = reader::take(
+    let mut pred = [[0u64; 2]; 128];
+    let h = reader::take_rows(
         file,
         &mut cores,
         &mut kind,
@@ -86,12 +93,13 @@ pub fn path(file: &[u8], out: &mut [u8]) -> Pathed
         &mut edge,
         &mut starts,
         &mut order,
+        &mut pred,
     );
     let answer = h.answer;
     match answer {
         Answer::Refused(refusal) => Pathed::Refused(refusal),
         Answer::Accepted => {
-            accepted::path_of(h, &cores, &kind, &wcet, &edge, &starts, &order, out)
+            accepted::path_of(h, &cores, &kind, &wcet, &edge, &starts, &order, &pred, out)
         }
     }
 }
@@ -104,9 +112,19 @@ pub fn figures(g: Graph) -> Bounded
     ensures { λ r. ⌜ Figures (asModel g) r ⌝ }
 {
     let mut starts = [0u16; 129];
-    let order = reader::along(g, &mut starts);
+    let mut pred = [[0u64; 2]; 128];
+    let order = reader::along_rows(g, &mut starts, &mut pred);
     let h = reader::header_of(g);
-    accepted::figures_of(h, &g.cores, &g.kind, &g.wcet, &g.edge, &starts, &order)
+    accepted::figures_of(
+        h,
+        &g.cores,
+        &g.kind,
+        &g.wcet,
+        &g.edge,
+        &starts,
+        &order,
+        &pred,
+    )
 }
 
 pub fn path_into(g: Graph, out: &mut [u8]) -> Pathed
@@ -114,9 +132,20 @@ pub fn path_into(g: Graph, out: &mut [u8]) -> Pathed
     ensures { λ r. ⌜ PathIn g (now (out .entry)) r (now (out .exit)) ⌝ }
 {
     let mut starts = [0u16; 129];
-    let order = reader::along(g, &mut starts);
+    let mut pred = [[0u64; 2]; 128];
+    let order = reader::along_rows(g, &mut starts, &mut pred);
     let h = reader::header_of(g);
-    accepted::path_of(h, &g.cores, &g.kind, &g.wcet, &g.edge, &starts, &order, out)
+    accepted::path_of(
+        h,
+        &g.cores,
+        &g.kind,
+        &g.wcet,
+        &g.edge,
+        &starts,
+        &order,
+        &pred,
+        out,
+    )
 }
 
 // NEW-B-1 alone, over the lists as they are lent, from the volume that a caller has already.
@@ -128,13 +157,16 @@ pub fn new_of<'a>(
     edge: &'a [u16; 1024],
     start: &'a [u16; 129],
     order: &'a [u8; 128],
+    pred: &'a [[u64; 2]; 128],
     shares: Parts,
 ) -> Parts
     requires { ⌜ Usable h (now cores) (now kind) (now wcet) (now edge) (now start) (now order) ⌝ }
+    requires { ⌜ Holds (now pred) (predecessor (now edge) (h .edges)) ⌝ }
     requires { ⌜ (shares .0 ≡ volume (asModel (graphIn h (now cores) (now kind) (now wcet) (now edge)))) × (shares .0 ≤ 922521600000000) ⌝ }
     ensures { λ r. ⌜ NewB1 (asModel (graphIn h (now (cores .entry)) (now (kind .entry)) (now (wcet .entry)) (now (edge .entry)))) (r .0) ⌝ }
 {
     let n = h.n;
+    let led = rows::led(pred, n);
     let weight = weights(kind, wcet, cores, h.kinds, n, Measure::Scaled);
-    Parts(accepted::largest(edge, start, order, n, &weight)).plus(shares)
+    Parts(accepted::largest(edge, start, order, n, &weight, &led)).plus(shares)
 }

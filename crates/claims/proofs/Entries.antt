@@ -5,7 +5,9 @@ use mathlib.Core.List.{List}
 use Prim.Native.Nat.{ℕ}
 use lib.ListN.{length}
 use Rattle.graph.specs.Judge.{readOf}
+use Rattle.graph.specs.declared.Answer.{Answer}
 use Rattle.graph.specs.declared.Taken.{Taken}
+use Rattle.reader.specs.Laid.{RowsInto, KinInto}
 use Rattle.writer.specs.Lists.{Lists}
 use Rattle.writer.specs.Write.{wroteOf, roomAfter}
 use Rattle.writer.specs.declared.Wrote.{Wrote}
@@ -47,10 +49,16 @@ use Rattle.codes.specs.declared.PlannerTick.{PlannerTick}
 use Rattle.codes.specs.declared.PlannerFinish.{PlannerFinish}
 use Rattle.codes.specs.declared.PlannerLate.{PlannerLate}
 use Rattle.codes.specs.declared.PlannerMended.{PlannerMended}
-use Rattle.claims.specs.Entries.{ReadGives, WriteGives, BoundsGives, SecondGives, PathGives, GainsGives, AlteredGives, StartGives, TickGives, TickInPlaceGives, RunGives, LateGives, EnoughGives, ReplayGives, LogGives, StgReadGives, StgWriteGives, MendGives, PlannerReadGives, PlannerWriteGives, PlannerBoundsGives, PlannerSecondGives, PlannerPathGives, PlannerGainsGives, PlannerAlteredGives, PlannerStartGives, PlannerTickGives, PlannerTickInPlaceGives, PlannerRunGives, PlannerLateGives, PlannerEnoughGives, PlannerReplayGives, PlannerLogGives, PlannerStgReadGives, PlannerStgWriteGives, PlannerMendGives}
+use Rattle.claims.specs.Entries.{ReadGives, RowsGives, KinGives, WriteGives, BoundsGives, SecondGives, PathGives, GainsGives, AlteredGives, StartGives, TickGives, TickInPlaceGives, RunGives, LateGives, EnoughGives, ReplayGives, LogGives, StgReadGives, StgWriteGives, MendGives, PlannerReadGives, PlannerWriteGives, PlannerBoundsGives, PlannerSecondGives, PlannerPathGives, PlannerGainsGives, PlannerAlteredGives, PlannerStartGives, PlannerTickGives, PlannerTickInPlaceGives, PlannerRunGives, PlannerLateGives, PlannerEnoughGives, PlannerReplayGives, PlannerLogGives, PlannerStgReadGives, PlannerStgWriteGives, PlannerMendGives}
 
 pub read-given : {s : List ℕ} {t : Taken} → ReadGives s t → t ≡ readOf s
 read-given h = sym (h .as-seen .1) ∙ h .ensured ∙ ap readOf (h .as-seen .0)
+
+pub rows-given : {s : List ℕ} {x : Answer} {p : List (List ℕ)} → RowsGives s x p → (x ≡ readOf s .answer) × RowsInto s p
+rows-given h = let i = h .as-seen in rw (← i .0, ← i .1, ← i .2) (h .ensured .0 .answer, h .ensured .1)
+
+pub kin-given : {s : List ℕ} {x : Answer} {p a : List (List ℕ)} → KinGives s x p a → (x ≡ readOf s .answer) × KinInto s p a
+kin-given h = let i = h .as-seen in rw (← i .0, ← i .1, ← i .2, ← i .3) (h .ensured .0 .answer, h .ensured .1)
 
 pub write-given : {g : Lists} {old new : List ℕ} {w : Wrote} → WriteGives g old w new → (w ≡ wroteOf g (length old)) × (new ≡ roomAfter g old)
 write-given h =

@@ -14,6 +14,7 @@ pub mod Order6
 pub mod Order7
 pub mod Order8
 pub mod Order9
+pub mod Order10
 pub mod Order11
 pub mod Order12
 pub mod Order13

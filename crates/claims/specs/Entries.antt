@@ -23,6 +23,8 @@
 --
 -- Of functions inside, which rest on what their `requires` says:
 --
+--   RowsGives s x p                  the reader's answer x for the file s, and the table p of each vertex's predecessors (`take_rows`)
+--   KinGives s x p a                 the same, and the table a of its ancestors (`take_kin`)
 --   AfreshGives e st o n w r         the summary r that is made afresh, of the edges e with the starts st, in the order o of n vertices, with the
 --                                    weights w
 --   RenewedGives .. w old v r        the summary r that old is brought up to date to, where w differs in the weight of v
@@ -33,10 +35,15 @@ use mathlib.Core.List.{List}
 use Prim.Native.Nat.{ℕ}
 use denote.Ref.{now}
 use Rattle.outcome.specs.Allows.{Allows}
+use Rattle.graph.specs.declared.Answer.{Answer}
 use Rattle.graph.specs.declared.Graph.{Graph}
 use Rattle.graph.specs.declared.Taken.{Taken}
 use Rattle.reader.proofs.read as read
 use Rattle.reader.proofs.read.Reads as read-reads
+use Rattle.reader.proofs.take_rows as take-rows
+use Rattle.reader.proofs.take_rows.Reads as take-rows-reads
+use Rattle.reader.proofs.take_kin as take-kin
+use Rattle.reader.proofs.take_kin.Reads as take-kin-reads
 use Rattle.writer.specs.Lists.{Lists, lists}
 use Rattle.writer.specs.declared.Wrote.{Wrote}
 use Rattle.writer.proofs.write as write
@@ -190,6 +197,15 @@ LateGives s e d r = Allows late.ended late-reads.Post (λ κs a x w. (now (a .0)
 
 abbrev pub EnoughGives : List ℕ → ℕ → ℕ → Fewest → Type 0
 EnoughGives s k d r = Allows enough.ended enough-reads.Post (λ κs a x w. (now (a .0) ≡ s) × (a .1 .0 ≡ k) × (a .1 .1 .0 ≡ d) × (x ≡ r))
+
+abbrev pub RowsGives : List ℕ → Answer → List (List ℕ) → Type 0
+RowsGives s x p =
+    Allows take-rows.ended take-rows-reads.Post (λ κs b r e. (now (b .0) ≡ s) × (r .answer ≡ x) × (now (e .1 .1 .1 .1 .1 .1 .1 .0) ≡ p))
+
+abbrev pub KinGives : List ℕ → Answer → List (List ℕ) → List (List ℕ) → Type 0
+KinGives s x p a =
+    Allows take-kin.ended take-kin-reads.Post
+    (λ κs b r e. (now (b .0) ≡ s) × (r .answer ≡ x) × (now (e .1 .1 .1 .1 .1 .1 .1 .0) ≡ p) × (now (e .1 .1 .1 .1 .1 .1 .1 .1 .0) ≡ a))
 
 abbrev pub ReplayGives : List ℕ → List ℕ → List ℕ → Replayed → List ℕ → Type 0
 ReplayGives s l old r new =

@@ -11,12 +11,12 @@ use lib.ListN.{getD, set, length, length-set, List·getD-eq-default}
 use borrow.Author.Tests.{eq-eqb, ne-eqb, eqb-true, lt-ltb, le-ltb, ltb-true, not-false}
 use Rattle.model.specs.Places.{bit, count, any, table}
 use Rattle.model.proofs.Bools.{clash, le-or-lt, both, left-of, right-of, not-true, bit-one, bit-zero}
-use Rattle.model.proofs.Places.{count-more, count-none, count-all, count-some, count-split, count-up, count-there, count-apart, none-counted, some-counted, any-more, any-ext, any-elim, any-intro, any-none}
+use Rattle.model.proofs.Places.{count-more, count-all, count-some, count-split, count-up, count-there, count-apart, none-counted, some-counted, any-more, any-ext, any-elim, any-intro, any-none}
 use Rattle.model.proofs.Tables.{table-length, table-at}
 use Rattle.model.proofs.Turns.{count-past}
 use Rattle.starts.specs.Starts.{comesFrom, leadsTo, startIn, Rows}
 use Rattle.waiting.specs.Waiting.{entering, leading}
-use Rattle.waiting.proofs.Rows.{split, rows-together}
+use Rattle.waiting.proofs.Rows.{split, rows-together, enter-known}
 use Rattle.waiting.proofs.Numbers.{entering-ext}
 use Rattle.cycle.specs.Line.{free, due, times, untold, Unled, Told, Line}
 use Rattle.cycle.proofs.Telling.{times-none, times-more}
@@ -114,13 +114,6 @@ module _ (w : List ℕ) (v : ℕ) (o : List ℕ) (k : ℕ) (U : Unled w v o k) w
 -- ---- the line
 
 module _ {l : List ℕ} {m n : ℕ} {starts : List ℕ} (R : Rows l m n starts) where
-  -- no edge leads to a number from n on
-  enter-known : (p : ℕ → Bool) (v : ℕ) → n ≤ v → entering l p m v ≡ 0
-  unfolding entering
-  enter-known p v h =
-      count-none (λ i. p (comesFrom l i) && eqb (leadsTo l i) v) m
-      (λ i b. ap (λ (x : Bool). p (comesFrom l i) && x) (ne-eqb (leadsTo l i) v (λ e. omega (arith, R .to-known i b))) ∙ and-false (p (comesFrom l i)))
-
   -- a number that is 0 counts no edge
   edge-told : (p : ℕ → Bool) (i : ℕ) → i < m → entering l p m (leadsTo l i) ≡ 0 → p (comesFrom l i) ≡ false
   unfolding entering
@@ -145,7 +138,7 @@ module _ {l : List ℕ} {m n : ℕ} {starts : List ℕ} (R : Rows l m n starts) 
       at v h = ap (λ (x : List ℕ). getD x v 0) e ∙ table-at (entering l (λ u. true) m) 128 v h
 
       past : (v : ℕ) → n ≤ v → v < 128 → free w v ≡ true
-      past v a b = eq-eqb (getD w v 0) 0 (at v b ∙ enter-known (λ u. true) v a)
+      past v a b = eq-eqb (getD w v 0) 0 (at v b ∙ enter-known R (λ u. true) v a)
 
       none : (i j : ℕ) → j < k → getD o j 0 ≡ leadsTo l i → getD w (leadsTo l i) 0 ≡ 0
       none i j b q = rw (← q) (due-free n w (getD o j 0) (stands-in o k (due n w) (U .once) j b))
@@ -163,7 +156,7 @@ module _ {l : List ℕ} {m n : ℕ} {starts : List ℕ} (R : Rows l m n starts) 
     pub waits-known : (v : ℕ) → n ≤ v → free w v ≡ true
     waits-known v h =
         eq-eqb (getD w v 0) 0
-        (⊎-elim (λ (b : 128 ≤ v). List·getD-eq-default w 0 (rw (L .long) b)) (λ (b : v < 128). L .counts v b ∙ enter-known (untold o told) v h) (le-or-lt 128 v))
+        (⊎-elim (λ (b : 128 ≤ v). List·getD-eq-default w 0 (rw (L .long) b)) (λ (b : v < 128). L .counts v b ∙ enter-known R (untold o told) v h) (le-or-lt 128 v))
 
     module _ (more : told < k) where
       abbrev u : ℕ

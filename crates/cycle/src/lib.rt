@@ -10,6 +10,8 @@ ghost use lib.ListN.{getD, length};
 ghost use Rattle.model.specs.Cycle as model;
 ghost use Rattle.graph.specs.Model.{asModel};
 ghost use Rattle.starts.specs.Starts.{leadsTo, Rows, Ordered};
+ghost use Rattle.sets.specs.Sets.{Holds};
+ghost use Rattle.rows.specs.Rows.{predecessor};
 ghost use Rattle.waiting.specs.Waiting.{leading, edgesBy};
 ghost use Rattle.cycle.specs.Drawn.{drawn};
 ghost use Rattle.cycle.specs.Line.{everyone, Unled, Told, Line};
@@ -85,20 +87,24 @@ fn take_up(
     found
 }
 
-// Number 11: whether the edges hold a cycle. Where they hold none, `order` has the vertices in an order along them.
+// Number 11: whether the edges hold a cycle. Where they hold none, `order` has the vertices in an order along them. How many lead to each
+// is the number of ones of its row. Whom a vertex leads to is read in the edge list, where its successors stand together: in the rows it
+// would be one bit of each row, so that all rows were looked at for each vertex.
 pub fn cyclic(
     edge: &[u16; 1024],
     starts: &[u16; 129],
+    pred: &[[u64; 2]; 128],
     n: usize,
     edges: usize,
     order: &mut [u8; 128],
 ) -> bool
     requires { ⌜ Rows (now edge) edges n (now starts) ⌝ }
+    requires { ⌜ Holds (now pred) (predecessor (now edge) edges) ⌝ }
     requires { ⌜ length (now order) ≡ 128 ⌝ }
     ensures { λ r. ⌜ r ≡ model.cyclic (asModel (drawn (now (edge .entry)) n edges)) ⌝ }
     ensures { λ r. ⌜ (r ≡ false → Ordered (now (edge .entry)) edges n (now (order .exit))) ⌝ }
 {
-    let mut waiting = waiting::counted(edge, starts[128]);
+    let mut waiting = rows::counted(pred, n);
     let first = unled(&waiting, n, order);
     let found = take_up(edge, starts, &mut waiting, order, first);
     found != n

@@ -4,6 +4,8 @@ ghost use mathlib.Core.Bool.{true};
 ghost use mathlib.Core.Logic.{_↔_};
 ghost use Prim.Native.Nat.{_-_, _*_, _≤_, _<_};
 ghost use Rattle.graph.specs.Model.{asModel};
+ghost use Rattle.sets.specs.Sets.{Holds};
+ghost use Rattle.rows.specs.Rows.{predecessor};
 ghost use Rattle.reader.specs.Laid.{graphIn, Usable};
 ghost use Rattle.enough.specs.Answers.{Meets, EnoughIn};
 ghost use Rattle.enough.specs.Halving.{Between};
@@ -26,15 +28,17 @@ fn meets<'a>(
     edge: &'a [u16; 1024],
     start: &'a [u16; 129],
     order: &'a [u8; 128],
+    pred: &'a [[u64; 2]; 128],
 ) -> bool
     requires { ⌜ Usable h (now cores) (now kind) (now wcet) (now edge) (now start) (now order) ⌝ }
+    requires { ⌜ Holds (now pred) (predecessor (now edge) (h .edges)) ⌝ }
     requires { ⌜ (s < h .kinds) × (1 ≤ m) × (m ≤ 16) ⌝ }
     ensures { λ r. ⌜ (r ≡ true) ↔ Meets (asModel (graphIn h (now (cores .entry)) (now (kind .entry)) (now (wcet .entry)) (now (edge .entry)))) s limit m ⌝ }
 {
     let mut changed = *cores;
     changed[s] = m;
     let shares = volume(kind, wcet, &changed, h.kinds, h.n);
-    let new = bounds::new_of(h, &changed, kind, wcet, edge, start, order, shares);
+    let new = bounds::new_of(h, &changed, kind, wcet, edge, start, order, pred, shares);
     let ticks = new.ticks();
     ticks.0 <= limit as u64
 }
@@ -58,8 +62,10 @@ fn halved<'a>(
     edge: &'a [u16; 1024],
     start: &'a [u16; 129],
     order: &'a [u8; 128],
+    pred: &'a [[u64; 2]; 128],
 ) -> Span
     requires { ⌜ Usable h (now cores) (now kind) (now wcet) (now edge) (now start) (now order) ⌝ }
+    requires { ⌜ Holds (now pred) (predecessor (now edge) (h .edges)) ⌝ }
     requires { ⌜ s < h .kinds ⌝ }
     requires { ⌜ Between (asModel (graphIn h (now cores) (now kind) (now wcet) (now edge))) s limit (span .low) (span .high) × (span .low < span .high) ⌝ }
     ensures { λ r. ⌜ Between (asModel (graphIn h (now (cores .entry)) (now (kind .entry)) (now (wcet .entry)) (now (edge .entry)))) s limit (r .low) (r .high) ⌝ }
@@ -68,7 +74,7 @@ fn halved<'a>(
     let low = span.low;
     let high = span.high;
     let m = (low + high) / 2;
-    if meets(h, s, m, limit, cores, kind, wcet, edge, start, order) {
+    if meets(h, s, m, limit, cores, kind, wcet, edge, start, order, pred) {
         return Span { low, high: m };
     }
     Span { low: m + 1, high }
@@ -85,14 +91,28 @@ fn smallest<'a>(
     edge: &'a [u16; 1024],
     start: &'a [u16; 129],
     order: &'a [u8; 128],
+    pred: &'a [[u64; 2]; 128],
 ) -> u8
     requires { ⌜ Usable h (now cores) (now kind) (now wcet) (now edge) (now start) (now order) ⌝ }
+    requires { ⌜ Holds (now pred) (predecessor (now edge) (h .edges)) ⌝ }
     requires { ⌜ s < h .kinds ⌝ }
     ensures { λ r. ⌜ Between (asModel (graphIn h (now (cores .entry)) (now (kind .entry)) (now (wcet .entry)) (now (edge .entry)))) s limit r r ⌝ }
 {
     let mut span = Span { low: 1, high: 17 };
     while span.low < span.high {
-        span = halved(span, h, s, limit, cores, kind, wcet, edge, start, order);
+        span = halved(
+            span,
+            h,
+            s,
+            limit,
+            cores,
+            kind,
+            wcet,
+            edge,
+            start,
+            order,
+            pred,
+        );
     }
     span.low
 }
@@ -108,8 +128,10 @@ pub(crate) fn fewest_of<'a>(
     edge: &'a [u16; 1024],
     start: &'a [u16; 129],
     order: &'a [u8; 128],
+    pred: &'a [[u64; 2]; 128],
 ) -> Fewest
     requires { ⌜ Usable h (now cores) (now kind) (now wcet) (now edge) (now start) (now order) ⌝ }
+    requires { ⌜ Holds (now pred) (predecessor (now edge) (h .edges)) ⌝ }
     ensures { λ r. ⌜ EnoughIn (asModel (graphIn h (now (cores .entry)) (now (kind .entry)) (now (wcet .entry)) (now (edge .entry)))) s limit r ⌝ }
 {
     if h.kinds <= s as usize {
@@ -118,7 +140,18 @@ pub(crate) fn fewest_of<'a>(
             place: 0,
         });
     }
-    let c = smallest(h, s as usize, limit, cores, kind, wcet, edge, start, order);
+    let c = smallest(
+        h,
+        s as usize,
+        limit,
+        cores,
+        kind,
+        wcet,
+        edge,
+        start,
+        order,
+        pred,
+    );
     if 16 < c {
         return nothing(Refusal {
             number: 26,

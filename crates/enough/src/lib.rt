@@ -33,7 +33,8 @@ pub fn enough(file: &[u8], kind: u32, limit: u32) -> Fewest
     let mut edge = [0u16; 1024];
     let mut starts = [0u16; 129];
     let mut order = [0u8; 128];
-    let h = reader::take(
+    let mut pred = [[0u64; 2]; 128];
+    let h = reader::take_rows(
         file,
         &mut cores,
         &mut kinds,
@@ -41,6 +42,7 @@ pub fn enough(file: &[u8], kind: u32, limit: u32) -> Fewest
         &mut edge,
         &mut starts,
         &mut order,
+        &mut pred,
     );
     let answer = h.answer;
     match answer {
@@ -55,6 +57,7 @@ pub fn enough(file: &[u8], kind: u32, limit: u32) -> Fewest
             &edge,
             &starts,
             &order,
+            &pred,
         ),
     }
 }

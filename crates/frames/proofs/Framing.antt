@@ -15,10 +15,9 @@ use Rattle.model.specs.Places.{pick, bit, count}
 use Rattle.model.proofs.Bools.{cases, le-or-lt}
 use Rattle.model.proofs.Places.{count-none}
 use Rattle.graph.specs.File.{records}
-use Rattle.graph.specs.Model.{asModel, from}
+use Rattle.graph.specs.Model.{asModel}
 use Rattle.graph.specs.declared.Graph.{Graph}
-use Rattle.starts.specs.Starts.{comesFrom}
-use Rattle.ready.proofs.ByNumbers.{edges-counted, layout}
+use Rattle.ready.proofs.ByNumbers.{layout}
 use Rattle.choice.proofs.ByKind.{kinds-known}
 use Rattle.vset.specs.declared.Vset.{Vset}
 use Rattle.vset.specs.Members.{isIn, Members}
@@ -46,10 +45,6 @@ module _ {g : Graph} {n : ℕ} {cores kind edge starts : List ℕ} (L : LentOf g
 
   laid : Layout edge starts
   laid = rw (L .edges-are, L .starts-are) (layout g (L .accepted))
-
-  pub edges-known : Layout edge starts × ((n ≤ 128) × ((i : ℕ) → i < edgesBy starts → comesFrom edge i < n))
-  unfolding from
-  edges-known = (laid, (few, rw (L .n-is, L .edges-are, L .starts-are) (λ i h. L .accepted .from-known i (rw (edges-counted g (L .accepted)) at h))))
 
   pub lists : {l words lasts : List ℕ} → InForm n l → OfKinds words kind n → Lasted l (records l) lasts → Lists n l kind words edge starts lasts
   lists f w s = record { few = few; in-form = f; known = kinds-below .1; words-are = w; layout = laid; lasts-are = s }

@@ -11,6 +11,8 @@ ghost use Rattle.graph.specs.declared.Graph.{Graph};
 ghost use Rattle.graph.specs.Model.{asModel};
 ghost use Rattle.graph.specs.File.{records};
 ghost use Rattle.vset.specs.Members.{isIn, Members};
+ghost use Rattle.sets.specs.Sets.{Holds};
+ghost use Rattle.rows.specs.Rows.{predecessor};
 ghost use Rattle.waiting.specs.Waiting.{edgesBy, Layout, Settled};
 ghost use Rattle.recorded.specs.Log.{InForm};
 ghost use Rattle.formed.specs.Passing.{Lasted};
@@ -266,18 +268,19 @@ pub fn first_faults(
     n: usize,
     cores: &[u8; 10],
     kind: &[u8; 128],
+    pred: &[[u64; 2]; 128],
     edge: &[u16; 1024],
     starts: &[u16; 129],
     lasts: &[u16; 128],
 ) -> Faults
-    requires { ⌜ ((g : Graph) × LentOf g n (now cores) (now kind) (now edge) (now starts)) ⌝ }
+    requires { ⌜ ((g : Graph) × LentOf g n (now cores) (now kind) (now edge) (now starts) × Holds (now pred) (predecessor (g .edge) (g .edges))) ⌝ }
     requires { ⌜ InForm n (now log) × Lasted (now log) (records (now log)) (now lasts) ⌝ }
     ensures { λ r. ⌜ ((g : Graph) → LentOf g n (now (cores .entry)) (now (kind .entry)) (now (edge .entry)) (now (starts .entry)) → FaultsBy (asModel g) (now (log .entry)) (records (now (log .entry))) r) ⌝ }
 {
     let m = log.len() / 8;
     let words = choice::of_kinds(kind, n);
     let busy = with_records(lasts);
-    let begun = waiting::begun(edge, starts, n, busy);
+    let begun = waiting::begun(pred, edge, starts, n, busy);
     let mut waiting = begun.waiting;
     let mut used = [0u8; 10];
     let mut p = outset(busy, begun.behind);

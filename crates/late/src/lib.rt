@@ -6,6 +6,8 @@ ghost use lib.Dec.{leb};
 ghost use Rattle.graph.specs.declared.Graph.{Graph};
 ghost use Rattle.graph.specs.Model.{asModel};
 ghost use Rattle.graph.specs.declared.Answer.the-variants.{Accepted, Refused};
+ghost use Rattle.sets.specs.Sets.{Holds};
+ghost use Rattle.rows.specs.Rows.{predecessor};
 ghost use Rattle.reader.specs.Laid.{graphIn, Usable};
 ghost use Rattle.tick.specs.Lists.{GraphOf};
 ghost use Rattle.times.specs.Times.{timesOf, Fitting};
@@ -35,22 +37,23 @@ fn refused(refusal: Refusal) -> Lateness
     }
 }
 
-// The run is played up to tick d: it has ended where no ticks are left then.
+// The run is played up to tick d: it has ended where nobody has ticks left then.
 fn looked_up(
     kinds: usize,
     n: usize,
     cores: &[u8; 10],
     kind: &[u8; 128],
+    pred: &[[u64; 2]; 128],
     edge: &[u16; 1024],
     starts: &[u16; 129],
     times: &[u32],
     d: u32,
 ) -> Lateness
-    requires { ⌜ ((g : Graph) × GraphOf g kinds n (now cores) (now kind) (now edge) (now starts) × Fitting g (now times)) ⌝ }
+    requires { ⌜ ((g : Graph) × GraphOf g kinds n (now cores) (now kind) (now edge) (now starts) × Fitting g (now times) × Holds (now pred) (predecessor (g .edge) (g .edges))) ⌝ }
     ensures { λ r. ⌜ r .answer ≡ Accepted ⌝ }
     ensures { λ r. ⌜ ((g : Graph) → GraphOf g kinds n (now (cores .entry)) (now (kind .entry)) (now (edge .entry)) (now (starts .entry)) → Fitting g (now (times .entry)) → (r .yes ≡ leb (finishOf (asModel g) (timesOf (now (times .entry)))) d) × (r .played .0 ≡ min d (finishOf (asModel g) (timesOf (now (times .entry)))))) ⌝ }
 {
-    let begun = times::begun(n, edge, starts, times);
+    let begun = times::begun(n, pred, edge, starts, times);
     let run = leaps::until(kinds, n, cores, kind, edge, starts, begun, d);
     let left = run.left;
     let yes = remains::total(left, n) == 0;
@@ -68,6 +71,7 @@ fn decided<'a>(
     cores: &'a [u8; 10],
     kind: &'a [u8; 128],
     wcet: &'a [u32; 128],
+    pred: &'a [[u64; 2]; 128],
     edge: &'a [u16; 1024],
     starts: &'a [u16; 129],
     order: &'a [u8; 128],
@@ -75,6 +79,7 @@ fn decided<'a>(
     d: u32,
 ) -> Lateness
     requires { ⌜ Usable h (now cores) (now kind) (now wcet) (now edge) (now starts) (now order) ⌝ }
+    requires { ⌜ Holds (now pred) (predecessor (now edge) (h .edges)) ⌝ }
     requires { ⌜ Fitting (graphIn h (now cores) (now kind) (now wcet) (now edge)) (now times) ⌝ }
     ensures { λ r. ⌜ r .answer ≡ Accepted ⌝ }
     ensures { λ r. ⌜ Told (asModel (graphIn h (now (cores .entry)) (now (kind .entry)) (now (wcet .entry)) (now (edge .entry)))) (timesOf (now (times .entry))) d r ⌝ }
@@ -84,7 +89,7 @@ fn decided<'a>(
     let shares = volume(kind, wcet, cores, kinds, n);
     let least = shares.ticks();
     if least.0 <= d as u64 {
-        let new = bounds::new_of(h, cores, kind, wcet, edge, starts, order, shares);
+        let new = bounds::new_of(h, cores, kind, wcet, edge, starts, order, pred, shares);
         let bound = new.ticks();
         if bound.0 <= d as u64 {
             return Lateness {
@@ -94,7 +99,7 @@ fn decided<'a>(
             };
         }
     }
-    looked_up(kinds, n, cores, kind, edge, starts, times, d)
+    looked_up(kinds, n, cores, kind, pred, edge, starts, times, d)
 }
 
 pub fn late(file: &[u8], times: &[u32], d: u32) -> Lateness
@@ -106,7 +111,8 @@ pub fn late(file: &[u8], times: &[u32], d: u32) -> Lateness
     let mut edge = [0u16; 1024];
     let mut starts = [0u16; 129];
     let mut order = [0u8; 128];
-    let h = reader::take(
+    let mut pred = [[0u64; 2]; 128];
+    let h = reader::take_rows(
         file,
         &mut cores,
         &mut kind,
@@ -114,6 +120,7 @@ pub fn late(file: &[u8], times: &[u32], d: u32) -> Lateness
         &mut edge,
         &mut starts,
         &mut order,
+        &mut pred,
     );
     let answer = h.answer;
     match answer {
@@ -123,7 +130,18 @@ pub fn late(file: &[u8], times: &[u32], d: u32) -> Lateness
             match judged {
                 Answer::Refused(refusal) => refused(refusal),
                 Answer::Accepted => {
-                    decided(h, &cores, &kind, &wcet, &edge, &starts, &order, times, d)
+                    decided(
+                        h,
+                        &cores,
+                        &kind,
+                        &wcet,
+                        &pred,
+                        &edge,
+                        &starts,
+                        &order,
+                        times,
+                        d,
+                    )
                 }
             }
         }

@@ -6,6 +6,8 @@ ghost use Rattle.model.specs.Places.{table};
 ghost use Rattle.graph.specs.Model.{AcceptedGraph};
 ghost use Rattle.starts.specs.Starts.{firstEdge};
 ghost use Rattle.graph.specs.declared.Graph.{Graph};
+ghost use Rattle.sets.specs.Sets.{Holds};
+ghost use Rattle.rows.specs.Rows.{predecessor};
 ghost use Rattle.reader.specs.Laid.{graphIn};
 ghost use Rattle.tick.specs.Lists.{GraphOf};
 ghost use Rattle.times.specs.Times.{Fitting};
@@ -25,15 +27,16 @@ fn log_into(
     n: usize,
     cores: &[u8; 10],
     kind: &[u8; 128],
+    pred: &[[u64; 2]; 128],
     edge: &[u16; 1024],
     starts: &[u16; 129],
     times: &[u32],
     out: &mut [u8],
 ) -> Wrote
-    requires { ⌜ ((g : Graph) × GraphOf g kinds n (now cores) (now kind) (now edge) (now starts) × Fitting g (now times)) ⌝ }
+    requires { ⌜ ((g : Graph) × GraphOf g kinds n (now cores) (now kind) (now edge) (now starts) × Fitting g (now times) × Holds (now pred) (predecessor (g .edge) (g .edges))) ⌝ }
     ensures { λ r. ⌜ ((g : Graph) → GraphOf g kinds n (now (cores .entry)) (now (kind .entry)) (now (edge .entry)) (now (starts .entry)) → Fitting g (now (times .entry)) → (r ≡ loggedIn g (now (times .entry)) (length (now (out .entry)))) × (now (out .exit) ≡ roomBy r (logFor g (now (times .entry))) (now (out .entry)))) ⌝ }
 {
-    let begun = times::begun(n, edge, starts, times);
+    let begun = times::begun(n, pred, edge, starts, times);
     let done = leaps::play(kinds, n, cores, kind, edge, starts, begun);
     let finishes = done.finishes;
     let mut keys = [0u64; 256];
@@ -55,6 +58,7 @@ fn log_on(
     cores: &[u8; 10],
     kind: &[u8; 128],
     wcet: &[u32; 128],
+    pred: &[[u64; 2]; 128],
     edge: &[u16; 1024],
     starts: &[u16; 129],
     times: &[u32],
@@ -62,12 +66,13 @@ fn log_on(
 ) -> Wrote
     requires { ⌜ AcceptedGraph (graphIn h (now cores) (now kind) (now wcet) (now edge)) ⌝ }
     requires { ⌜ now starts ≡ table (firstEdge (graphIn h (now cores) (now kind) (now wcet) (now edge))) 129 ⌝ }
+    requires { ⌜ Holds (now pred) (predecessor (now edge) (h .edges)) ⌝ }
     ensures { λ r. ⌜ (r ≡ loggedOn (graphIn h (now (cores .entry)) (now (kind .entry)) (now (wcet .entry)) (now (edge .entry))) (now (times .entry)) (length (now (out .entry)))) × (now (out .exit) ≡ roomBy r (logFor (graphIn h (now (cores .entry)) (now (kind .entry)) (now (wcet .entry)) (now (edge .entry))) (now (times .entry))) (now (out .entry))) ⌝ }
 {
     let answer = times::judge(h.n, wcet, times);
     match answer {
         Answer::Refused(refusal) => Wrote::Refused(refusal),
-        Answer::Accepted => log_into(h.kinds, h.n, cores, kind, edge, starts, times, out),
+        Answer::Accepted => log_into(h.kinds, h.n, cores, kind, pred, edge, starts, times, out),
     }
 }
 
@@ -81,7 +86,8 @@ pub fn log(file: &[u8], times: &[u32], out: &mut [u8]) -> Wrote
     let mut edge = [0u16; 1024];
     let mut starts = [0u16; 129];
     let mut order = [0u8; 128];
-    let h = reader::take(
+    let mut pred = [[0u64; 2]; 128];
+    let h = reader::take_rows(
         file,
         &mut cores,
         &mut kind,
@@ -89,10 +95,11 @@ pub fn log(file: &[u8], times: &[u32], out: &mut [u8]) -> Wrote
         &mut edge,
         &mut starts,
         &mut order,
+        &mut pred,
     );
     let answer = h.answer;
     match answer {
         Answer::Refused(refusal) => Wrote::Refused(refusal),
-        Answer::Accepted => log_on(h, &cores, &kind, &wcet, &edge, &starts, times, out),
+        Answer::Accepted => log_on(h, &cores, &kind, &wcet, &pred, &edge, &starts, times, out),
     }
 }

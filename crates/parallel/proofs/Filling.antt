@@ -21,8 +21,9 @@ use Rattle.graph.specs.Model.{asModel}
 use Rattle.choice.specs.Choice.{ofKind, setAt, OfKinds}
 use Rattle.summary.proofs.Along.{well-formed}
 use Rattle.sets.specs.Sets.{rowOf, wordsOf, Table, Holds}
-use Rattle.parallel.specs.Rows.{above, below, beside}
 use Rattle.sets.proofs.Tables.{put-table, in-same, in-other}
+use Rattle.rows.specs.Rows.{above}
+use Rattle.parallel.specs.Rows.{below, beside}
 
 -- a vertex of the same kind, apart from those above, those below and v itself
 apart-beside : (a k x y q : Bool) → (a && k) && not (((true && x) || (true && y)) || q) ≡ true && (a && ((k && not q) && (not x && not y)))

@@ -1,7 +1,5 @@
--- The ancestors, told along the order; the descendants, gathered against it; and what is neither:
-pub mod Telling
-pub mod Learning
+-- The descendants, gathered against the order; and what is neither above nor below:
 pub mod Reaching
 pub mod Filling
--- What each public contract leaves open: nothing.
+-- What the public contract leaves open: nothing.
 pub mod Outcomes

@@ -1,11 +1,11 @@
--- No public contract of this crate leaves a choice, of the result or of what was lent.
+-- The public contract of this crate leaves no choice of what was lent.
 use mathlib.Core.Path.{refl}
 use Rattle.outcome.specs.OneOutcome.{OneOutcome}
 use Rattle.sets.proofs.Tables.{holds-unique}
-use Rattle.parallel.proofs.rows as rows
-use Rattle.parallel.proofs.rows.Reads as rows-reads
+use Rattle.parallel.proofs.beside as beside
+use Rattle.parallel.proofs.beside.Reads as beside-reads
 
-pub rows-one : OneOutcome rows.ended rows-reads.Pre rows-reads.Post
-rows-one κs a r r′ ws ws′ pre p q =
-    let e = holds-unique (p (pre .0 .0) (pre .0 .1) (pre .0 .2)) (q (pre .0 .0) (pre .0 .1) (pre .0 .2)) in
-    (refl, λ i. (tt, (tt, (tt, (tt, (tt, (e i, tt)))))))
+pub beside-one : OneOutcome beside.ended beside-reads.Pre beside-reads.Post
+beside-one κs a r r′ ws ws′ pre p q =
+    let e = holds-unique (p (pre .0 .0) (pre .0 .1) (pre .0 .2) (pre .0 .3)) (q (pre .0 .0) (pre .0 .1) (pre .0 .2) (pre .0 .3)) in
+    (refl, λ i. (tt, (tt, (tt, (tt, (tt, (tt, (e i, tt))))))))

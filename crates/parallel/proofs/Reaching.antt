@@ -25,8 +25,8 @@ use Rattle.vset.proofs.Gather.{members-ext}
 use Rattle.summary.specs.Row.{many, nth}
 use Rattle.summary.proofs.Along.{well-formed, few, vertex, place, place-below, place-at, vertex-at, nth-joins, nth-of, rises}
 use Rattle.sets.specs.Sets.{rowOf, wordsOf, empty, Table, Holds}
-use Rattle.parallel.specs.Rows.{below, reachedBy}
 use Rattle.sets.proofs.Tables.{put-table, in-same, in-other, empty-table, empty-in}
+use Rattle.parallel.specs.Rows.{below, reachedBy}
 
 -- one edge more, to x: s is x and its row
 pub reached-more : (e st : List ℕ) (t : List (List ℕ)) (u k x : ℕ) (got s r : Vset) → x ≡ nth e st u k → Members got (reachedBy e st t u k)

@@ -1,5 +1,6 @@
 // Each vertex's descendants. One pass along the order, from its last vertex to its first: the successors of a vertex stand after it, so their
-// descendants are known before its own.
+// descendants are known before its own. The successors are read in the edge list, where they stand together: so a row is put once, where
+// along the rows of predecessors it would be put once for each successor.
 ghost use mathlib.Core.List.{[]};
 ghost use mathlib.Core.Path.{_≡_};
 ghost use Rattle.graph.specs.declared.Graph.{Graph};

@@ -9,14 +9,13 @@ ghost use Rattle.graph.specs.Model.{asModel};
 ghost use Rattle.vset.specs.Members.{isIn, Members};
 ghost use Rattle.paths.specs.Ahead.{Weighed};
 ghost use Rattle.sets.specs.Sets.{empty, Holds};
+ghost use Rattle.rows.specs.Rows.{above};
 ghost use Rattle.parallel.specs.Rows.{beside};
-use ancestors::ancestors;
 use descendants::descendants;
 use sets::put;
 use sets::row;
 use vset::Vset;
 
-mod ancestors; // ancestors.rt: each vertex's ancestors
 mod descendants; // descendants.rt: each vertex's descendants
 
 // Of the vertices of one kind those that are not v itself, nor above it, nor below it.
@@ -27,26 +26,26 @@ fn apart(same: Vset, above: Vset, below: Vset, v: usize) -> Vset
     vset::minus(same, vset::with(vset::either(above, below), v))
 }
 
-// The rows of all vertices, into a table that is lent and empty; those from n on stay empty.
-pub fn rows(
+// The rows of all vertices, into a table that is lent and empty; those from n on stay empty. `anc` has each vertex's ancestors.
+pub fn beside(
     kind: &[u8; 128],
     edge: &[u16; 1024],
     start: &[u16; 129],
     order: &[u8; 128],
+    anc: [[u64; 2]; 128],
     n: usize,
     t: &mut [[u64; 2]; 128],
 )
-    requires { ⌜ ((g : Graph) × Weighed g (now edge) (now start) (now order) n [] × (g .kind ≡ now kind)) ⌝ }
+    requires { ⌜ ((g : Graph) × Weighed g (now edge) (now start) (now order) n [] × (g .kind ≡ now kind) × Holds anc (above (asModel g))) ⌝ }
     requires { ⌜ now t ≡ empty ⌝ }
-    ensures { λ r. ⌜ ((g : Graph) → Weighed g (now (edge .entry)) (now (start .entry)) (now (order .entry)) n [] → g .kind ≡ now (kind .entry) → Holds (now (t .exit)) (beside (asModel g))) ⌝ }
+    ensures { λ r. ⌜ ((g : Graph) → Weighed g (now (edge .entry)) (now (start .entry)) (now (order .entry)) n [] → g .kind ≡ now (kind .entry) → Holds anc (above (asModel g)) → Holds (now (t .exit)) (beside (asModel g))) ⌝ }
 {
     let words = choice::of_kinds(kind, n);
-    let up = ancestors(edge, start, order, n);
     descendants(edge, start, order, n, t);
     let mut v: usize = 0;
     while v < n {
         let same = choice::set_at(&words, kind[v] as usize);
-        let above = row(&up, v);
+        let above = row(&anc, v);
         let below = row(t, v);
         put(t, v, apart(same, above, below, v));
         v += 1;

@@ -1,16 +1,16 @@
 -- The largest sum by the edges of one vertex, which are looked at one by one. It rests on the sums of the vertices that they go to, and
--- on no other. Whoever they go to is marked.
+-- on no other.
 use mathlib.Core.Path.{_≡_, refl, sym, ap, _∙_}
 use mathlib.Core.List.{List}
-use mathlib.Core.Logic.{_⊎_, inl, inr, _↔_}
+use mathlib.Core.Logic.{_⊎_, inl, inr}
 use Prim.Native.Nat.{ℕ, _+_, _≤_, _<_, max}
 use native.Mathlib.Omega.{arith}
 use native.Mathlib.Decide.{ℕ-discrete}
-use lib.ListN.{getD, length, set, length-set}
-use lib.Seq.{getD-set-same, getD-set-other}
+use lib.ListN.{getD, set}
+use lib.Seq.{getD-set-other}
 use Rattle.model.proofs.Bools.{le-or-lt}
 use Rattle.paths.specs.Ahead.{weigh}
-use Rattle.paths.specs.Along.{goes, sumBy, Given, Follows, NoneTo, Led}
+use Rattle.paths.specs.Along.{goes, sumBy, Given, Follows}
 
 module _ (e w s : List ℕ) (a : ℕ) where
   pub follows-none : Follows e w s a a 0
@@ -42,27 +42,3 @@ module _ (e w s : List ℕ) (a : ℕ) where
       still : Given e w s a b y → Given e w (set s u x) a b y
       still (inl z) = inl z
       still (inr r) = inr (r .0, r .1, r .2, r .3 ∙ ap (λ (z : ℕ). weigh w (goes e (r .0)) + z) (sym (there (r .0) (r .1) (r .2))))
-
-module _ (e : List ℕ) (a : ℕ) (m : List ℕ) where
-  pub led-none : length m ≡ 128 → Led e a a m m
-  led-none size = record { size = size; unmarked = λ v. (λ z. (z, λ i l h. absurd (omega arith)), λ r. r .0) }
-
-  -- one edge more, to the vertex v
-  pub led-more : (i v : ℕ) (m′ : List ℕ) → a ≤ i → v < 128 → v ≡ goes e i → Led e a i m m′ → Led e a (i + 1) m (set m′ v 1)
-  led-more i v m′ l k ev L = record { size = length-set m′ v 1 ∙ L .size; unmarked = λ u. at u (ℕ-discrete u v) }
-    where
-      at : (u : ℕ) → Dec (u ≡ v) → (getD (set m′ v 1) u 0 ≡ 0) ↔ ((getD m u 0 ≡ 0) × NoneTo e a (i + 1) u)
-      at u (yes q) = (
-        λ z. absurd (omega (arith, rw q at z, getD-set-same m′ v 1 0 (omega (arith, k, L .size)))),
-        λ r. absurd (r .1 i l (omega arith) (sym ev ∙ sym q)),
-      )
-      at u (no q) = (
-        λ z. let r = L .unmarked u .0 (sym same ∙ z) in (r .0, λ j g h w. r .1 j g (omega (arith, h, earlier j w)) w),
-        λ r. same ∙ L .unmarked u .1 (r .0, λ j g h w. r .1 j g (omega (arith, h)) w),
-      )
-        where
-          same : getD (set m′ v 1) u 0 ≡ getD m′ u 0
-          same = getD-set-other m′ v u 1 0 q
-
-          earlier : (j : ℕ) → goes e j ≡ u → (j ≡ i → ⊥)
-          earlier j w z = q (sym w ∙ ap (goes e) z ∙ sym ev)

@@ -9,7 +9,7 @@ use Rattle.paths.proofs.trace.trace.Reads as trace-reads
 
 pub longest-one : OneOutcome longest.ended longest-reads.Pre longest-reads.Post
 longest-one κs a r r′ ws ws′ pre p q =
-    (summed-unique r r′ (p (pre .0) (pre .1)) (q (pre .0) (pre .1)), refl)
+    (summed-unique r r′ (p (pre .0) (pre .1) (pre .2)) (q (pre .0) (pre .1) (pre .2)), refl)
 
 -- of what is lent, the list of out is the sixth
 pub trace-one : OneOutcome trace.ended trace-reads.Pre trace-reads.Post

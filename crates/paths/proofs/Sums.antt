@@ -1,8 +1,8 @@
 -- Why one pass along the order finds the largest sums. A table in which each sum is the largest by an edge, over what its ends have, holds the
 -- largest sums ahead: it bounds every path, by induction along the path, and going on to the end that gives the sum makes a path that
 -- attains it. From the last place of the order to the first, each sum is made so: the ends of a vertex's edges stand at later places, where
--- the sums are done, and no later store changes them. On the way every edge marks its end, so that at last the sources are unmarked.
-use mathlib.Core.Path.{_≡_, ap, _∙_}
+-- the sums are done, and no later store changes them.
+use mathlib.Core.Path.{_≡_, sym, ap, _∙_}
 use mathlib.Core.List.{List, _∷_}
 use mathlib.Core.Logic.{_⊎_, inl, inr, _↔_}
 use Prim.Native.Nat.{ℕ, zero, suc, _+_, _-_, _*_, _≤_, _<_, zero-le}
@@ -10,6 +10,7 @@ use native.Mathlib.Omega.{arith}
 use native.Mathlib.Decide.{ℕ-discrete}
 use lib.ListN.{getD, length, set, replicate, length-replicate, length-set}
 use lib.Seq.{getD-set-same, getD-set-other}
+use borrow.Author.Tests.{eq-eqb, eqb-true}
 use Rattle.model.specs.Places.{along}
 use Rattle.model.specs.Graph.{Edge, Source, WellFormed}
 use Rattle.model.specs.Graph as model
@@ -18,14 +19,14 @@ use Rattle.model.specs.Path.{ToSink, link}
 use Rattle.model.proofs.Bools.{le-or-lt}
 use Rattle.model.proofs.Tables.{table-at, zeros}
 use Rattle.model.proofs.Cycles.{ranked, rank-below}
-use Rattle.model.proofs.Paths.{to-sink, unraised}
+use Rattle.model.proofs.Paths.{to-sink, unraised, source-tells}
 use Rattle.graph.specs.Model.{AcceptedGraph, asModel, from, to}
 use Rattle.graph.specs.declared.Graph.{Graph}
 use Rattle.graph.proofs.Edges.{edge-at, edge-place}
 use Rattle.starts.specs.Starts.{comesFrom, firstEdge, Ordered}
 use Rattle.starts.proofs.Together.{start-within, start-below, start-above, start-later}
-use Rattle.paths.specs.Ahead.{weigh, sumAt, Light, Ahead, Summed, RowsOf, Weighed}
-use Rattle.paths.specs.Along.{goes, Given, Follows, Visitable, NoneTo, Led, Comparable, Foremost}
+use Rattle.paths.specs.Ahead.{weigh, sumAt, Light, Ahead, Summed, RowsOf, Weighed, Sources}
+use Rattle.paths.specs.Along.{goes, Given, Follows, Visitable, Comparable, Foremost}
 use Rattle.paths.proofs.Along.{follows-kept}
 
 -- ---- sums that follow from one another
@@ -110,23 +111,19 @@ module _ {g : Graph} {e st : List ℕ} (R : RowsOf g e st) where
 
 -- ---- along the order
 
--- the sums of the vertices from place j on are done, and whoever they lead to is marked in m
-pub record Done (e st o : List ℕ) (n : ℕ) (w s m : List ℕ) (j : ℕ) : Type 0 where
+-- the sums of the vertices from place j on are done
+pub record Done (e st o : List ℕ) (n : ℕ) (w s : List ℕ) (j : ℕ) : Type 0 where
   pub size : length s ≡ 128
   pub follows : (k : ℕ) → j ≤ k → k < n → Follows e w s (getD st (getD o k 0) 0) (getD st (getD o k 0 + 1) 0) (getD s (getD o k 0) 0)
   pub small : (v : ℕ) → getD s v 0 ≤ 720720000000 * (n - j)
   pub past : (v : ℕ) → n ≤ v → getD s v 0 ≡ 0
-  pub marks : length m ≡ 128
-  pub unmarked : (v : ℕ) → (getD m v 0 ≡ 0) ↔ ((k : ℕ) → j ≤ k → k < n → NoneTo e (getD st (getD o k 0) 0) (getD st (getD o k 0 + 1) 0) v)
 
-pub done-none : (e st o : List ℕ) (n : ℕ) (w : List ℕ) → Done e st o n w (replicate 128 0) (replicate 128 0) n
+pub done-none : (e st o : List ℕ) (n : ℕ) (w : List ℕ) → Done e st o n w (replicate 128 0) n
 done-none e st o n w = record {
   size = length-replicate {A = ℕ} 128 0;
   follows = λ k l m. absurd (omega arith);
   small = λ v. omega (arith, zeros 128 v);
   past = λ v l. zeros 128 v;
-  marks = length-replicate {A = ℕ} 128 0;
-  unmarked = λ v. (λ z k l b. absurd (omega arith), λ f. zeros 128 v);
 }
 
 module _ {g : Graph} {e st o : List ℕ} {n : ℕ} {w : List ℕ} (T : Weighed g e st o n w) where
@@ -148,25 +145,19 @@ module _ {g : Graph} {e st o : List ℕ} {n : ℕ} {w : List ℕ} (T : Weighed g
       let r = row-edge (T .rows) (getD o k 0) i (known k l) a b in
       omega (arith, O .later i (r .0), ap (O .place) (comes-from (T .rows) i ∙ r .1), place-at k l)
 
-  module _ (s m : List ℕ) (j k : ℕ) (next : j ≡ k + 1) (l : j ≤ n) (D : Done e st o n w s m j) where
+  module _ (s : List ℕ) (j k : ℕ) (next : j ≡ k + 1) (l : j ≤ n) (D : Done e st o n w s j) where
     pub done-visitable : Visitable e st w s (getD o k 0)
     done-visitable =
         visitable (T .rows) (T .light) s (720720000000 * 128) (λ v b. omega (arith, D .small v, l, T .vertices, T .rows .accepted .few-vertices)) (omega arith) (getD o k 0) (known k (omega arith))
 
     -- one place more is done: its sum is stored, and no edge from here on goes to it
-    pub done-more : (x : ℕ) (m′ : List ℕ) → Follows e w s (getD st (getD o k 0) 0) (getD st (getD o k 0 + 1) 0) x → Led e (getD st (getD o k 0) 0) (getD st (getD o k 0 + 1) 0) m m′
-        → Done e st o n w (set s (getD o k 0) x) m′ k
+    pub done-more : (x : ℕ) → Follows e w s (getD st (getD o k 0) 0) (getD st (getD o k 0 + 1) 0) x → Done e st o n w (set s (getD o k 0) x) k
     unfolding asModel
-    done-more x m′ F L = record {
+    done-more x F = record {
       size = length-set s u x ∙ D .size;
       follows = λ i a b. follows i a b (ℕ-discrete i k);
       small = λ v. small v (ℕ-discrete v u);
       past = λ v a. getD-set-other s u v x 0 (λ q. omega (arith, q, known k within, T .vertices)) ∙ D .past v a;
-      marks = L .size;
-      unmarked = λ v. (
-        λ z. let r = L .unmarked v .0 z in λ i a b. none-to v (r .0) (r .1) i a b (ℕ-discrete i k),
-        λ f. L .unmarked v .1 (D .unmarked v .1 (λ i a b. f i (omega (arith, a)) b), f k (omega arith) within),
-      );
     }
       where
         u : ℕ
@@ -202,23 +193,15 @@ module _ {g : Graph} {e st o : List ℕ} {n : ℕ} {w : List ℕ} (T : Weighed g
         small v (yes q) = rw (q, here) (most (F .attained))
         small v (no q) = omega (arith, getD-set-other s u v x 0 q, D .small v)
 
-        none-to : (v : ℕ) → getD m v 0 ≡ 0 → NoneTo e (getD st u 0) (getD st (u + 1) 0) v → (i : ℕ) → k ≤ i → i < n → Dec (i ≡ k)
-            → NoneTo e (getD st (getD o i 0) 0) (getD st (getD o i 0 + 1) 0) v
-        none-to v z r i a b (yes q) = rw q r
-        none-to v z r i a b (no q) = D .unmarked v .0 z i (omega (arith, a, q)) b
-
   -- ---- at the end
 
-  module _ (s m : List ℕ) (D : Done e st o n w s m 0) where
-    -- nobody leads to an unmarked vertex
-    unmarked-source : (v : ℕ) → (getD m v 0 ≡ 0) ↔ Source (asModel g) v
-    unmarked-source v = (
-      λ z u d.
-          let r = row-of (T .rows) u v d in
-          let l = T .rows .accepted .well-formed .from u v d in
-          let f = rw (O .stands u (unfold asModel in l)) at (D .unmarked v .0 z (O .place u) zero-le (omega (arith, O .within u (unfold asModel in l), T .vertices))) in
-          f (r .0) (r .1) (r .2) (r .3),
-      λ S. D .unmarked v .1 (λ k a b i c d q. S (getD o k 0) (rw q at (row-joins (T .rows) (getD o k 0) i (known k b) c d))),
+  module _ (s m : List ℕ) (D : Done e st o n w s 0) (S : Sources g m) where
+    -- the unmarked vertices are the sources
+    unmarked-source : (v : ℕ) → v < g .n → (getD m v 0 ≡ 0) ↔ Source (asModel g) v
+    unfolding asModel
+    unmarked-source v l = (
+      λ z. source-tells (T .rows .accepted .well-formed) .sound v l (sym (S v l) ∙ eq-eqb (getD m v 0) 0 z),
+      λ d. eqb-true (getD m v 0) 0 (S v l ∙ source-tells (T .rows .accepted .well-formed) .complete v l d),
     )
 
     -- no edge leads to the first vertex of the order
@@ -232,7 +215,7 @@ module _ {g : Graph} {e st o : List ℕ} {n : ℕ} {w : List ℕ} (T : Weighed g
     done-comparable = record {
       few = omega (arith, T .vertices, T .rows .accepted .few-vertices);
       vertex = omega (arith, T .vertices, O .known 0 (T .rows .accepted .some-vertex));
-      unmarked = unmarked-source (getD o 0 0) .1 first-source;
+      unmarked = unmarked-source (getD o 0 0) (O .known 0 (T .rows .accepted .some-vertex)) .1 first-source;
       fits = λ v l. omega (arith, T .light v (rw (T .vertices) at l), D .small v, T .vertices, T .rows .accepted .few-vertices);
     }
 
@@ -243,9 +226,9 @@ module _ {g : Graph} {e st o : List ℕ} {n : ℕ} {w : List ℕ} (T : Weighed g
       longest = record { size = D .size; ahead = follows-ahead W (G .acyclic) (weigh w) (λ v. getD s v 0) most attained; past = λ v l. D .past v (rw (T .vertices) l) };
       head = record {
         known = rw (T .vertices) at (F .vertex);
-        is-source = unmarked-source h .0 (F .unmarked);
-        most = λ u l d. F .most u (rw (T .vertices) l) (unmarked-source u .1 d);
-        first = λ u l d. F .first u l (unmarked-source u .1 d);
+        is-source = unmarked-source h (rw (T .vertices) at (F .vertex)) .0 (F .unmarked);
+        most = λ u l d. F .most u (rw (T .vertices) l) (unmarked-source u l .1 d);
+        first = λ u l d. F .first u l (unmarked-source u (omega (arith, l, F .vertex, T .vertices)) .1 d);
       };
     }
       where

@@ -12,12 +12,14 @@
 --   Summed G f r      r has both: the table, and the source where the longest path begins
 --   RowsOf g e st     e is the edge list of the accepted graph g, and st the starts of its vertices' edges
 --   Weighed g e st o n w  the same; o is an order of its vertices along the edges, n is their number, and w are light weights for them
+--   Sources g l       of the vertices of g, the list l has 0 at the sources
 use mathlib.Core.Path.{_≡_}
 use mathlib.Core.List.{List, _∷_}
 use Prim.Native.Nat.{ℕ, _+_, _≤_, _<_}
+use lib.Dec.{eqb}
 use lib.ListN.{getD, length}
 use Rattle.model.specs.Places.{along, table}
-use Rattle.model.specs.Graph.{Graph, Source}
+use Rattle.model.specs.Graph.{Graph, Source, source}
 use Rattle.model.specs.Path.{ToSink}
 use Rattle.graph.specs.declared.Graph as reader
 use Rattle.graph.specs.Model.{AcceptedGraph, asModel}
@@ -64,3 +66,6 @@ pub record Weighed (g : reader.Graph) (e st o : List ℕ) (n : ℕ) (w : List �
   pub order : Ordered e (g .edges) (g .n) o
   pub vertices : n ≡ g .n
   pub light : Light (asModel g) w
+
+abbrev pub Sources : reader.Graph → List ℕ → Type 0
+Sources g l = (v : ℕ) → v < g .n → eqb (getD l v 0) 0 ≡ source (asModel g) v

@@ -2,22 +2,20 @@
 --
 -- What lies ahead of a vertex follows from its successors, once it is known of all of them. Only private contracts cite this file: over
 -- the lists that the code has, an edge list e, the starts st of the vertices' edges in it, weights w and sums s, and marks m, which are 0
--- for a vertex that no edge is known to go to.
+-- for a vertex that no edge goes to.
 --
 --   goes e i                where edge i goes
 --   sumBy e w s i           what lies ahead by edge i: the weight of the vertex that it goes to, and the sum of that
 --   Given e w s a b x       x is the sum by one of the edges from a to b, or 0
 --   Follows e w s a b x     x is the largest sum by the edges from a to b, or 0 where there are none
 --   Visitable e st w s u    the edges of u stand in the list and go to vertices, and the sums by them fit
---   NoneTo e a b v          none of the edges from a to b goes to v
---   Led e a b m m′          whoever the edges from a to b go to is marked in m′, beside those of m
 --   Comparable w s m n h    h is one of the n vertices and unmarked, and every vertex's largest sum fits
 --   Foremost w s m n h      of the unmarked vertices, h has the largest sum; of several, it is the first
 use mathlib.Core.Path.{_≡_}
 use mathlib.Core.List.{List}
-use mathlib.Core.Logic.{_⊎_, _↔_}
+use mathlib.Core.Logic.{_⊎_}
 use Prim.Native.Nat.{ℕ, _+_, _%_, _≤_, _<_}
-use lib.ListN.{getD, length}
+use lib.ListN.{getD}
 use Rattle.paths.specs.Ahead.{weigh, sumAt}
 
 abbrev pub goes : List ℕ → ℕ → ℕ
@@ -39,13 +37,6 @@ pub record Visitable (e st w s : List ℕ) (u : ℕ) : Type 0 where
   pub within : getD st (u + 1) 0 ≤ 1024
   pub ends : (i : ℕ) → getD st u 0 ≤ i → i < getD st (u + 1) 0 → goes e i < 128
   pub fits : (i : ℕ) → getD st u 0 ≤ i → i < getD st (u + 1) 0 → sumBy e w s i < 18446744073709551616
-
-abbrev pub NoneTo : List ℕ → ℕ → ℕ → ℕ → Type 0
-NoneTo e a b v = (i : ℕ) → a ≤ i → i < b → goes e i ≡ v → ⊥
-
-pub record Led (e : List ℕ) (a b : ℕ) (m m′ : List ℕ) : Type 0 where
-  pub size : length m′ ≡ 128
-  pub unmarked : (v : ℕ) → (getD m′ v 0 ≡ 0) ↔ ((getD m v 0 ≡ 0) × NoneTo e a b v)
 
 pub record Comparable (w s m : List ℕ) (n h : ℕ) : Type 0 where
   pub few : n ≤ 128

@@ -5,8 +5,8 @@ ghost use Prim.Native.Nat.{_+_, max};
 ghost use lib.ListN.{getD, length};
 ghost use Rattle.graph.specs.declared.Graph.{Graph};
 ghost use Rattle.graph.specs.Model.{asModel};
-ghost use Rattle.paths.specs.Ahead.{weigh, Summed, Weighed};
-ghost use Rattle.paths.specs.Along.{Follows, Visitable, Led, Comparable, Foremost};
+ghost use Rattle.paths.specs.Ahead.{weigh, Summed, Weighed, Sources};
+ghost use Rattle.paths.specs.Along.{Follows, Visitable, Comparable, Foremost};
 use starts::to;
 
 // What lies ahead of each vertex, and the source where the longest path begins.
@@ -21,19 +21,16 @@ fn larger(a: u64, b: u64) -> u64
     if a < b { b } else { a }
 }
 
-// The largest sum by the edges of u, or 0 where it has none. Whoever they go to is marked as led to.
+// The largest sum by the edges of u, or 0 where it has none.
 fn most_ahead(
     edge: &[u16; 1024],
     start: &[u16; 129],
     weight: &[u64; 128],
     sums: &[u64; 128],
     u: usize,
-    led: &mut [u8; 128],
 ) -> u64
     requires { ⌜ Visitable (now edge) (now start) (now weight) (now sums) u ⌝ }
-    requires { ⌜ length (now led) ≡ 128 ⌝ }
     ensures { λ r. ⌜ Follows (now (edge .entry)) (now (weight .entry)) (now (sums .entry)) (getD (now (start .entry)) u 0) (getD (now (start .entry)) (u + 1) 0) r ⌝ }
-    ensures { λ r. ⌜ Led (now (edge .entry)) (getD (now (start .entry)) u 0) (getD (now (start .entry)) (u + 1) 0) (now (led .entry)) (now (led .exit)) ⌝ }
 {
     let end = start[u + 1] as usize;
     let mut most: u64 = 0;
@@ -41,7 +38,6 @@ fn most_ahead(
     while i < end {
         let v = to(edge[i]);
         most = larger(most, weight[v] + sums[v]);
-        led[v] = 1;
         i += 1;
     }
     most
@@ -74,7 +70,7 @@ fn foremost(
 }
 
 // One pass along the order, from its last vertex to its first: the successors of a vertex stand after it, so their sums are done
-// before its own. Each edge is seen by this, so that afterwards the sources are those that nobody leads to; the first of the order is one.
+// before its own. `led` has 0 for the vertices that nobody leads to; the first of the order is one of them.
 // The lists are lent, so the contract speaks of any accepted graph that they are of.
 pub fn longest(
     edge: &[u16; 1024],
@@ -82,18 +78,18 @@ pub fn longest(
     order: &[u8; 128],
     n: usize,
     weight: &[u64; 128],
+    led: &[u8; 128],
 ) -> Sums
-    requires { ⌜ ((g : Graph) × Weighed g (now edge) (now start) (now order) n (now weight)) ⌝ }
-    ensures { λ r. ⌜ ((g : Graph) → Weighed g (now (edge .entry)) (now (start .entry)) (now (order .entry)) n (now (weight .entry)) → Summed (asModel g) (weigh (now (weight .entry))) r) ⌝ }
+    requires { ⌜ ((g : Graph) × Weighed g (now edge) (now start) (now order) n (now weight) × Sources g (now led)) ⌝ }
+    ensures { λ r. ⌜ ((g : Graph) → Weighed g (now (edge .entry)) (now (start .entry)) (now (order .entry)) n (now (weight .entry)) → Sources g (now (led .entry)) → Summed (asModel g) (weigh (now (weight .entry))) r) ⌝ }
 {
     let mut sums = [0u64; 128];
-    let mut led = [0u8; 128];
     let mut j = n;
     while 0 < j {
         j -= 1;
         let u = order[j] as usize;
-        sums[u] = most_ahead(edge, start, weight, &sums, u, &mut led);
+        sums[u] = most_ahead(edge, start, weight, &sums, u);
     }
-    let head = foremost(weight, &sums, &led, n, order[0] as usize);
+    let head = foremost(weight, &sums, led, n, order[0] as usize);
     Sums { ahead: sums, head }
 }

@@ -8,6 +8,8 @@
 --   Along g st o                  st are the starts of the edges of g, and o is an order along them
 --   LaidOut g h c k w e st o      the counts and lists are the graph g, and go along it
 --   TakenInto s h c k w e st o    the reader's answer, and where the file is accepted its graph
+--   RowsInto s p                  where the file is accepted, the table p has each vertex's predecessors
+--   KinInto s p a                 the same, and the table a its ancestors
 --   Usable h c k w e st o         the lists are those of an accepted graph
 use mathlib.Core.Path.{_≡_}
 use mathlib.Core.List.{List}
@@ -19,6 +21,8 @@ use Rattle.graph.specs.Model.{AcceptedGraph}
 use Rattle.graph.specs.declared.Answer.the-variants.{Accepted}
 use Rattle.graph.specs.declared.Graph.{Graph}
 use Rattle.starts.specs.Starts.{firstEdge, Ordered}
+use Rattle.sets.specs.Sets.{Holds}
+use Rattle.rows.specs.Rows.{predecessor, Kin}
 use Rattle.reader.specs.declared.Header.{Header}
 
 pub record Blank (c k w e o : List ℕ) : Type 0 where
@@ -42,6 +46,12 @@ pub record LaidOut (g : Graph) (h : Header) (c k w e st o : List ℕ) : Type 0 w
 pub record TakenInto (s : List ℕ) (h : Header) (c k w e st o : List ℕ) : Type 0 where
   pub answer : h .answer ≡ readOf s .answer
   pub laid : readOf s .answer ≡ Accepted → LaidOut (readOf s .graph) h c k w e st o
+
+abbrev pub RowsInto : List ℕ → List (List ℕ) → Type 0
+RowsInto s p = readOf s .answer ≡ Accepted → Holds p (predecessor (readOf s .graph .edge) (readOf s .graph .edges))
+
+abbrev pub KinInto : List ℕ → List (List ℕ) → List (List ℕ) → Type 0
+KinInto s p a = readOf s .answer ≡ Accepted → Kin (readOf s .graph) p a
 
 pub record Usable (h : Header) (c k w e st o : List ℕ) : Type 0 where
   pub accepted : AcceptedGraph (graphIn h c k w e)

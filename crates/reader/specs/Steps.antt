@@ -7,8 +7,9 @@
 --   lowestIn s           the lowest number from 2 to 10 that applies, with its place; or 11
 --   Found s r            r has that, and where it is 11 the counts
 --   Listed s e st        e are the edges of the file's graph, and st their starts
---   Tested s r e st o    r is whether the edges hold a cycle; they are listed, with their starts, and where they hold none the order
---   Edged s h e st o     what is known of an accepted file: the counts, the edges, their starts, and an order along them
+--   Tested s r e st o p  r is whether the edges hold a cycle; they are listed, with their starts, where they hold none the order, and the rows of
+--                        predecessors
+--   Edged s h e st o p   what is known of an accepted file: the counts, the edges, their starts, an order along them, and the rows
 use mathlib.Core.Path.{_≡_}
 use mathlib.Core.Bool.{Bool, false}
 use mathlib.Core.List.{List}
@@ -24,6 +25,8 @@ use Rattle.graph.specs.declared.Refusal.{Refusal}
 use Rattle.records.specs.Passing.{Counted}
 use Rattle.records.specs.declared.Counts.{Counts}
 use Rattle.starts.specs.Starts.{firstEdge, Ordered}
+use Rattle.sets.specs.Sets.{Holds}
+use Rattle.rows.specs.Rows.{predecessor}
 use Rattle.reader.specs.declared.Header.{Header}
 use Rattle.reader.specs.declared.numbers.Judged.{Judged}
 
@@ -45,14 +48,16 @@ pub record Listed (s e st : List ℕ) : Type 0 where
   pub edge : e ≡ graphOf s .edge
   pub starts : st ≡ table (firstEdge (graphOf s)) 129
 
-pub record Tested (s : List ℕ) (r : Bool) (e st o : List ℕ) : Type 0 where
+pub record Tested (s : List ℕ) (r : Bool) (e st o : List ℕ) (p : List (List ℕ)) : Type 0 where
   pub cycle : r ≡ cyclic (asModel (graphOf s))
   pub listed : Listed s e st
   pub order : r ≡ false → Ordered (graphOf s .edge) (many s 2) (many s 1) o
+  pub rows : Holds p (predecessor (graphOf s .edge) (many s 2))
 
-pub record Edged (s : List ℕ) (h : Header) (e st o : List ℕ) : Type 0 where
+pub record Edged (s : List ℕ) (h : Header) (e st o : List ℕ) (p : List (List ℕ)) : Type 0 where
   pub kinds : h .kinds ≡ many s 0
   pub vertices : h .n ≡ many s 1
   pub edges : h .edges ≡ many s 2
   pub listed : Listed s e st
   pub order : Ordered (graphOf s .edge) (many s 2) (many s 1) o
+  pub rows : Holds p (predecessor (graphOf s .edge) (many s 2))

@@ -8,7 +8,9 @@ ghost use Rattle.graph.specs.Judge.{judgeFrom, readOf};
 ghost use Rattle.graph.specs.Model.{AcceptedGraph};
 ghost use Rattle.graph.specs.declared.Answer.the-variants.{Accepted, Refused};
 ghost use Rattle.reader.specs.Steps.{Faultless, Tested, Edged};
-ghost use Rattle.reader.specs.Laid.{Blank, Along, TakenInto};
+ghost use Rattle.sets.specs.Sets.{empty, Holds};
+ghost use Rattle.rows.specs.Rows.{predecessor};
+ghost use Rattle.reader.specs.Laid.{Blank, Along, TakenInto, RowsInto, KinInto};
 
 mod lists; // lists.rt: the lists of a file
 mod numbers; // numbers.rt: the lowest number up to 10 that applies
@@ -52,14 +54,16 @@ fn holds_cycle(
     edge: &mut [u16; 1024],
     starts: &mut [u16; 129],
     order: &mut [u8; 128],
+    pred: &mut [[u64; 2]; 128],
 ) -> bool
     requires { ⌜ Faultless (now file) c ⌝ }
-    requires { ⌜ (now edge ≡ replicate 1024 0) × (length (now order) ≡ 128) ⌝ }
-    ensures { λ r. ⌜ Tested (now (file .entry)) r (now (edge .exit)) (now (starts .exit)) (now (order .exit)) ⌝ }
+    requires { ⌜ (now edge ≡ replicate 1024 0) × (length (now order) ≡ 128) × (now pred ≡ empty) ⌝ }
+    ensures { λ r. ⌜ Tested (now (file .entry)) r (now (edge .exit)) (now (starts .exit)) (now (order .exit)) (now (pred .exit)) ⌝ }
 {
     lists::edge_of(file, c.kinds + c.n, c.edges, edge);
     *starts = starts::starts(edge, c.edges);
-    cycle::cyclic(edge, starts, c.n, c.edges, order)
+    rows::predecessors(edge, c.edges, pred);
+    cycle::cyclic(edge, starts, pred, c.n, c.edges, order)
 }
 
 // The answer of the numbers from 2 on.
@@ -68,11 +72,12 @@ fn take_edges(
     edge: &mut [u16; 1024],
     starts: &mut [u16; 129],
     order: &mut [u8; 128],
+    pred: &mut [[u64; 2]; 128],
 ) -> Header
     requires { ⌜ length (now file) ≤ 9320 ⌝ }
-    requires { ⌜ (now edge ≡ replicate 1024 0) × (length (now order) ≡ 128) ⌝ }
+    requires { ⌜ (now edge ≡ replicate 1024 0) × (length (now order) ≡ 128) × (now pred ≡ empty) ⌝ }
     ensures { λ h. ⌜ h .answer ≡ judgeFrom 2 (now (file .entry)) ⌝ }
-    ensures { λ h. ⌜ (judgeFrom 2 (now (file .entry)) ≡ Accepted → Edged (now (file .entry)) h (now (edge .exit)) (now (starts .exit)) (now (order .exit))) ⌝ }
+    ensures { λ h. ⌜ (judgeFrom 2 (now (file .entry)) ≡ Accepted → Edged (now (file .entry)) h (now (edge .exit)) (now (starts .exit)) (now (order .exit)) (now (pred .exit))) ⌝ }
 {
     let found = numbers::lowest(file);
     let refusal = found.refusal;
@@ -80,7 +85,7 @@ fn take_edges(
         return refused(refusal);
     }
     let c = found.counts;
-    if holds_cycle(file, c, edge, starts, order) {
+    if holds_cycle(file, c, edge, starts, order, pred) {
         return refused_whole(11);
     }
     Header {
@@ -99,12 +104,46 @@ pub fn judge(file: &[u8]) -> Answer
     let mut edge = [0u16; 1024];
     let mut starts = [0u16; 129];
     let mut order = [0u8; 128];
-    let h = take_edges(file, &mut edge, &mut starts, &mut order);
+    let mut pred = [[0u64; 2]; 128];
+    let h = take_edges(file, &mut edge, &mut starts, &mut order, &mut pred);
     h.answer
 }
 
-// The graph of a file in lists that are lent, with where each vertex's edges begin and an order of the vertices along the edges: for our
-// own layers, so that nothing is copied from call to call and nothing is found twice. Where number 1 applies, nothing else is looked at.
+// The graph of a file in lists that are lent, with where each vertex's edges begin, an order of the vertices along the edges and each
+// vertex's predecessors as rows: for our own layers, so that nothing is copied from call to call and nothing is found twice. Where number 1
+// applies, nothing else is looked at.
+pub fn take_rows(
+    file: &[u8],
+    cores: &mut [u8; 10],
+    kind: &mut [u8; 128],
+    wcet: &mut [u32; 128],
+    edge: &mut [u16; 1024],
+    starts: &mut [u16; 129],
+    order: &mut [u8; 128],
+    pred: &mut [[u64; 2]; 128],
+) -> Header
+    requires { ⌜ Blank (now cores) (now kind) (now wcet) (now edge) (now order) ⌝ }
+    requires { ⌜ now pred ≡ empty ⌝ }
+    ensures { λ h. ⌜ TakenInto (now (file .entry)) h (now (cores .exit)) (now (kind .exit)) (now (wcet .exit)) (now (edge .exit)) (now (starts .exit)) (now (order .exit)) ⌝ }
+    ensures { λ h. ⌜ RowsInto (now (file .entry)) (now (pred .exit)) ⌝ }
+{
+    if rules::wrong_length(file) {
+        return refused_whole(1);
+    }
+    let h = take_edges(file, edge, starts, order, pred);
+    let answer = h.answer;
+    match answer {
+        Answer::Refused(r) => refused(r),
+        Answer::Accepted => {
+            lists::cores_of(file, 0, h.kinds, cores);
+            lists::kind_of(file, h.kinds, h.n, kind);
+            lists::wcet_of(file, h.kinds, h.n, wcet);
+            h
+        }
+    }
+}
+
+// The same without the rows, for layers that do not read them.
 pub fn take(
     file: &[u8],
     cores: &mut [u8; 10],
@@ -117,17 +156,33 @@ pub fn take(
     requires { ⌜ Blank (now cores) (now kind) (now wcet) (now edge) (now order) ⌝ }
     ensures { λ h. ⌜ TakenInto (now (file .entry)) h (now (cores .exit)) (now (kind .exit)) (now (wcet .exit)) (now (edge .exit)) (now (starts .exit)) (now (order .exit)) ⌝ }
 {
-    if rules::wrong_length(file) {
-        return refused_whole(1);
-    }
-    let h = take_edges(file, edge, starts, order);
+    let mut pred = [[0u64; 2]; 128];
+    take_rows(file, cores, kind, wcet, edge, starts, order, &mut pred)
+}
+
+// The same with both tables: each vertex's predecessors and its ancestors. Whoever does not ask for the ancestors does not wait for them.
+pub fn take_kin(
+    file: &[u8],
+    cores: &mut [u8; 10],
+    kind: &mut [u8; 128],
+    wcet: &mut [u32; 128],
+    edge: &mut [u16; 1024],
+    starts: &mut [u16; 129],
+    order: &mut [u8; 128],
+    pred: &mut [[u64; 2]; 128],
+    anc: &mut [[u64; 2]; 128],
+) -> Header
+    requires { ⌜ Blank (now cores) (now kind) (now wcet) (now edge) (now order) ⌝ }
+    requires { ⌜ (now pred ≡ empty) × (now anc ≡ empty) ⌝ }
+    ensures { λ h. ⌜ TakenInto (now (file .entry)) h (now (cores .exit)) (now (kind .exit)) (now (wcet .exit)) (now (edge .exit)) (now (starts .exit)) (now (order .exit)) ⌝ }
+    ensures { λ h. ⌜ KinInto (now (file .entry)) (now (pred .exit)) (now (anc .exit)) ⌝ }
+{
+    let h = take_rows(file, cores, kind, wcet, edge, starts, order, pred);
     let answer = h.answer;
     match answer {
         Answer::Refused(r) => refused(r),
         Answer::Accepted => {
-            lists::cores_of(file, 0, h.kinds, cores);
-            lists::kind_of(file, h.kinds, h.n, kind);
-            lists::wcet_of(file, h.kinds, h.n, wcet);
+            rows::ancestors(order, h.n, pred, anc);
             h
         }
     }
@@ -207,13 +262,25 @@ pub fn header_of(g: Graph) -> Header
     }
 }
 
-// Where each vertex's edges begin, and an order along them: found again.
+// Where each vertex's edges begin, each vertex's predecessors, and an order along the edges: found again.
+pub fn along_rows(g: Graph, starts: &mut [u16; 129], pred: &mut [[u64; 2]; 128]) -> [u8; 128]
+    requires { ⌜ AcceptedGraph g ⌝ }
+    requires { ⌜ now pred ≡ empty ⌝ }
+    ensures { λ r. ⌜ Along g (now (starts .exit)) r ⌝ }
+    ensures { λ r. ⌜ Holds (now (pred .exit)) (predecessor (g .edge) (g .edges)) ⌝ }
+{
+    *starts = starts::starts(&g.edge, g.edges);
+    rows::predecessors(&g.edge, g.edges, pred);
+    let mut order = [0u8; 128];
+    cycle::cyclic(&g.edge, starts, pred, g.n, g.edges, &mut order);
+    order
+}
+
+// The same without the rows, for layers that do not read them.
 pub fn along(g: Graph, starts: &mut [u16; 129]) -> [u8; 128]
     requires { ⌜ AcceptedGraph g ⌝ }
     ensures { λ r. ⌜ Along g (now (starts .exit)) r ⌝ }
 {
-    *starts = starts::starts(&g.edge, g.edges);
-    let mut order = [0u8; 128];
-    cycle::cyclic(&g.edge, starts, g.n, g.edges, &mut order);
-    order
+    let mut pred = [[0u64; 2]; 128];
+    along_rows(g, starts, &mut pred)
 }

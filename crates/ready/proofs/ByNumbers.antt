@@ -1,6 +1,6 @@
 -- The numbers of an accepted graph: what they rest on, and that they say who stands behind a vertex with ticks left. Numbers that agree with
 -- themselves are the right ones.
-use mathlib.Core.Path.{_≡_, refl}
+use mathlib.Core.Path.{_≡_, refl, sym, _∙_}
 use mathlib.Core.Logic.{_⊎_, inl, inr}
 use mathlib.Core.List.{List}
 use mathlib.Core.Bool.{Bool, true, _&&_, _||_}
@@ -22,7 +22,9 @@ use Rattle.vset.specs.declared.Vset.{Vset}
 use Rattle.vset.specs.Members.{isIn, Members}
 use Rattle.starts.specs.Starts.{comesFrom, leadsTo, firstEdge, Rows}
 use Rattle.starts.proofs.Together.{accepted-rows}
-use Rattle.waiting.proofs.Rows.{rows-together, all-edges, rows-few-to}
+use Rattle.sets.specs.Sets.{rowOf, Holds}
+use Rattle.rows.specs.Rows.{predecessor}
+use Rattle.waiting.proofs.Rows.{rows-together, all-edges, common-counts}
 use Rattle.waiting.specs.Waiting.{entering, edgesBy, Layout, Settled, selfCounted}
 use Rattle.waiting.proofs.Numbers.{Closed, closed-one, settled-closed}
 use Rattle.ready.specs.Ready.{isBehind}
@@ -48,7 +50,7 @@ module _ (g : Graph) (A : AcceptedGraph g) where
   unfolding from to
   rank-rises i h = ranked (A .well-formed) (A .acyclic) .up (from g i) (to g i) (edge-at g i h)
 
-  pub ends-known : (i : ℕ) → i < g .edges → (comesFrom (g .edge) i < 128) × (leadsTo (g .edge) i < 128)
+  ends-known : (i : ℕ) → i < g .edges → (comesFrom (g .edge) i < 128) × (leadsTo (g .edge) i < 128)
   unfolding from to
   ends-known i h = (omega (arith, A .from-known i h, A .few-vertices), omega (arith, A .to-known i h, A .few-vertices))
 
@@ -79,37 +81,43 @@ module _ (g : Graph) (A : AcceptedGraph g) where
           let i = behind-closed p .comes v t in
           lt-ltb 0 (count test (g .edges)) (count-some test (g .edges) (i .0) (i .1) (both (on (i .0)) (eqb (leadsTo (g .edge) (i .0)) v) (i .2) (eq-eqb (leadsTo (g .edge) (i .0)) v (i .3))))
 
-  -- THEOREM. Numbers that agree with themselves are settled.
-  pub agreed : (w : List ℕ) (busy : ℕ → Bool) (b : Vset) → length w ≡ 128 → Members b (λ v. ltb 0 (getD w v 0)) → selfCounted (g .edge) (g .edges) w busy (isIn b) ≡ true → Settled (g .edge) (g .edges) w busy b
-  unfolding selfCounted
-  agreed w busy b long stand t = record {
-    long = long;
-    counts = λ v h. eqb-true (getD w v 0) (entering (g .edge) (λ u. busy u || isIn b u) (g .edges) v) (every-at (λ v. eqb (getD w v 0) (entering (g .edge) (λ u. busy u || isIn b u) (g .edges) v)) 128 t v h);
-    stand = stand;
-  }
-
-  pub agrees : (w : List ℕ) (busy : ℕ → Bool) (b : Vset) → Settled (g .edge) (g .edges) w busy b → selfCounted (g .edge) (g .edges) w busy (isIn b) ≡ true
-  unfolding selfCounted
-  agrees w busy b S =
-      every-intro (λ v. eqb (getD w v 0) (entering (g .edge) (λ u. busy u || isIn b u) (g .edges) v)) 128
-      (λ v h. eq-eqb (getD w v 0) (entering (g .edge) (λ u. busy u || isIn b u) (g .edges) v) (S .counts v h))
-
   rows : Rows (g .edge) (g .edges) (g .n) (table (firstEdge g) 129)
   rows = accepted-rows A refl
 
+  -- THEOREM. Numbers that agree with themselves are settled.
+  module _ (p : List (List ℕ)) (H : Holds p (predecessor (g .edge) (g .edges))) (w : List ℕ) (busy : ℕ → Bool) (b : Vset) where
+    abbrev unfinished : ℕ → Bool
+    unfinished u = busy u || isIn b u
+
+    abbrev right : ℕ → Bool
+    right v = eqb (getD w v 0) (count (λ u. isIn (rowOf p v) u && unfinished u) 128)
+
+    pub agreed : length w ≡ 128 → Members b (λ v. ltb 0 (getD w v 0)) → selfCounted p w busy (isIn b) ≡ true → Settled (g .edge) (g .edges) w busy b
+    unfolding selfCounted
+    agreed long stand t = record {
+      long = long;
+      counts = λ v h. eqb-true (getD w v 0) (count (λ u. isIn (rowOf p v) u && unfinished u) 128) (every-at right 128 t v h) ∙ common-counts rows p H unfinished v h;
+      stand = stand;
+    }
+
+    pub agrees : Settled (g .edge) (g .edges) w busy b → selfCounted p w busy (isIn b) ≡ true
+    unfolding selfCounted
+    agrees S = every-intro right 128 (λ v h. eq-eqb (getD w v 0) (count (λ u. isIn (rowOf p v) u && unfinished u) 128) (S .counts v h ∙ sym (common-counts rows p H unfinished v h)))
+
   pub edges-counted : edgesBy (table (firstEdge g) 129) ≡ g .edges
   edges-counted = all-edges rows
-
-  pub few-enter : (v : ℕ) → entering (g .edge) (λ u. true) (g .edges) v ≤ 128
-  few-enter = rows-few-to rows
 
   pub layout : Layout (g .edge) (table (firstEdge g) 129)
   layout = let m = edges-counted in record {
     few = rw m (A .few-edges);
     begin = rw m refl;
     known = λ i h. ends-known i (rw m at h);
-    few-to = λ v. rw m (few-enter v);
     together = λ i j h k. rows-together rows i j h (rw m at k);
     rank = ranked (A .well-formed) (A .acyclic) .rank;
     rises = λ i h. rank-rises i (rw m at h);
   }
+
+  -- what a run begins by
+  module _ {n : ℕ} {edge starts : List ℕ} (n-is : n ≡ g .n) (edges-are : edge ≡ g .edge) (starts-are : starts ≡ table (firstEdge g) 129) {p : List (List ℕ)} where
+    pub begins : Holds p (predecessor (g .edge) (g .edges)) → Layout edge starts × (Rows edge (edgesBy starts) n starts × Holds p (predecessor edge (edgesBy starts)))
+    begins H = rw (edges-are, starts-are, n-is, edges-counted) (layout, (rows, H))

@@ -8,6 +8,8 @@ ghost use Rattle.graph.specs.Model.{asModel, AcceptedGraph};
 ghost use Rattle.graph.specs.File.{records};
 ghost use Rattle.graph.specs.declared.Answer.the-variants.{Refused};
 ghost use Rattle.starts.specs.Starts.{firstEdge};
+ghost use Rattle.sets.specs.Sets.{Holds};
+ghost use Rattle.rows.specs.Rows.{predecessor};
 ghost use Rattle.reader.specs.Laid.{graphIn};
 ghost use Rattle.recorded.specs.Log.{InForm};
 ghost use Rattle.recorded.specs.Recorded.{lastInstant};
@@ -71,6 +73,7 @@ fn ruled(
     cores: &[u8; 10],
     kind: &[u8; 128],
     wcet: &[u32; 128],
+    pred: &[[u64; 2]; 128],
     edge: &[u16; 1024],
     starts: &[u16; 129],
     totals: &[u32; 128],
@@ -79,11 +82,12 @@ fn ruled(
 ) -> Answer
     requires { ⌜ AcceptedGraph (graphIn h (now cores) (now kind) (now wcet) (now edge)) ⌝ }
     requires { ⌜ now starts ≡ table (firstEdge (graphIn h (now cores) (now kind) (now wcet) (now edge))) 129 ⌝ }
+    requires { ⌜ Holds (now pred) (predecessor (now edge) (h .edges)) ⌝ }
     requires { ⌜ InForm (h .n) (now log) × TotalsOf (h .n) (now log) (now totals) × Lasted (now log) (records (now log)) (now lasts) ⌝ }
     ensures { λ r. ⌜ r ≡ judgeLog (asModel (graphIn h (now (cores .entry)) (now (kind .entry)) (now (wcet .entry)) (now (edge .entry)))) (now (log .entry)) room ⌝ }
 {
     let m = log.len() / 8;
-    let found = frames::first_faults(log, h.n, cores, kind, edge, starts, lasts);
+    let found = frames::first_faults(log, h.n, cores, kind, pred, edge, starts, lasts);
     if found.early < m {
         return refused(19, found.early as u32);
     }
@@ -109,12 +113,14 @@ fn judge(
     cores: &[u8; 10],
     kind: &[u8; 128],
     wcet: &[u32; 128],
+    pred: &[[u64; 2]; 128],
     edge: &[u16; 1024],
     starts: &[u16; 129],
     room: usize,
 ) -> Judged
     requires { ⌜ AcceptedGraph (graphIn h (now cores) (now kind) (now wcet) (now edge)) ⌝ }
     requires { ⌜ now starts ≡ table (firstEdge (graphIn h (now cores) (now kind) (now wcet) (now edge))) 129 ⌝ }
+    requires { ⌜ Holds (now pred) (predecessor (now edge) (h .edges)) ⌝ }
     ensures { λ r. ⌜ JudgedBy (graphIn h (now (cores .entry)) (now (kind .entry)) (now (wcet .entry)) (now (edge .entry))) (now (log .entry)) room r ⌝ }
 {
     let form = formed::judge(log, h.n);
@@ -136,6 +142,7 @@ fn judge(
                 cores,
                 kind,
                 wcet,
+                pred,
                 edge,
                 starts,
                 &totals,
@@ -153,16 +160,18 @@ fn replay_on(
     cores: &[u8; 10],
     kind: &[u8; 128],
     wcet: &[u32; 128],
+    pred: &[[u64; 2]; 128],
     edge: &[u16; 1024],
     starts: &[u16; 129],
     times: &mut [u32],
 ) -> Replayed
     requires { ⌜ AcceptedGraph (graphIn h (now cores) (now kind) (now wcet) (now edge)) ⌝ }
     requires { ⌜ now starts ≡ table (firstEdge (graphIn h (now cores) (now kind) (now wcet) (now edge))) 129 ⌝ }
+    requires { ⌜ Holds (now pred) (predecessor (now edge) (h .edges)) ⌝ }
     ensures { λ r. ⌜ r ≡ replayOn (graphIn h (now (cores .entry)) (now (kind .entry)) (now (wcet .entry)) (now (edge .entry))) (now (log .entry)) (length (now (times .entry))) ⌝ }
     ensures { λ r. ⌜ now (times .exit) ≡ timesBeside r (graphIn h (now (cores .entry)) (now (kind .entry)) (now (wcet .entry)) (now (edge .entry))) (now (log .entry)) (now (times .entry)) ⌝ }
 {
-    let judged = judge(log, h, cores, kind, wcet, edge, starts, times.len());
+    let judged = judge(log, h, cores, kind, wcet, pred, edge, starts, times.len());
     let answer = judged.answer;
     match answer {
         Answer::Refused(refusal) => Replayed::Refused(refusal),
@@ -185,7 +194,8 @@ pub fn replay(file: &[u8], log: &[u8], times: &mut [u32]) -> Replayed
     let mut edge = [0u16; 1024];
     let mut starts = [0u16; 129];
     let mut order = [0u8; 128];
-    let h = reader::take(
+    let mut pred = [[0u64; 2]; 128];
+    let h = reader::take_rows(
         file,
         &mut cores,
         &mut kind,
@@ -193,10 +203,11 @@ pub fn replay(file: &[u8], log: &[u8], times: &mut [u32]) -> Replayed
         &mut edge,
         &mut starts,
         &mut order,
+        &mut pred,
     );
     let answer = h.answer;
     match answer {
         Answer::Refused(refusal) => Replayed::Refused(refusal),
-        Answer::Accepted => replay_on(log, h, &cores, &kind, &wcet, &edge, &starts, times),
+        Answer::Accepted => replay_on(log, h, &cores, &kind, &wcet, &pred, &edge, &starts, times),
     }
 }

@@ -6,6 +6,8 @@ ghost use Rattle.graph.specs.declared.Graph.{Graph};
 ghost use Rattle.graph.specs.Model.{AcceptedGraph};
 ghost use Rattle.model.specs.Places.{table};
 ghost use Rattle.starts.specs.Starts.{firstEdge};
+ghost use Rattle.sets.specs.Sets.{Holds};
+ghost use Rattle.rows.specs.Rows.{predecessor};
 ghost use Rattle.reader.specs.Laid.{graphIn};
 ghost use Rattle.tick.specs.Lists.{EdgesOf, GraphOf};
 ghost use Rattle.times.specs.Times.{Fitting};
@@ -60,18 +62,19 @@ fn refused_start(refusal: Refusal) -> Started
 fn start_on(
     n: usize,
     wcet: &[u32; 128],
+    pred: &[[u64; 2]; 128],
     edge: &[u16; 1024],
     starts: &[u16; 129],
     times: &[u32],
 ) -> Started
-    requires { ⌜ ((g : Graph) × EdgesOf g n (now edge) (now starts) × (now wcet ≡ g .wcet)) ⌝ }
+    requires { ⌜ ((g : Graph) × EdgesOf g n (now edge) (now starts) × (now wcet ≡ g .wcet) × Holds (now pred) (predecessor (g .edge) (g .edges))) ⌝ }
     ensures { λ r. ⌜ ((g : Graph) → EdgesOf g n (now (edge .entry)) (now (starts .entry)) → now (wcet .entry) ≡ g .wcet → r ≡ startedOn g (now (times .entry))) ⌝ }
 {
     let answer = times::judge(n, wcet, times);
     match answer {
         Answer::Refused(refusal) => refused_start(refusal),
         Answer::Accepted => {
-            let run = times::begun(n, edge, starts, times);
+            let run = times::begun(n, pred, edge, starts, times);
             Started {
                 answer: Answer::Accepted,
                 run,
@@ -89,7 +92,8 @@ pub fn start(file: &[u8], times: &[u32]) -> Started
     let mut edge = [0u16; 1024];
     let mut starts = [0u16; 129];
     let mut order = [0u8; 128];
-    let h = reader::take(
+    let mut pred = [[0u64; 2]; 128];
+    let h = reader::take_rows(
         file,
         &mut cores,
         &mut kind,
@@ -97,11 +101,12 @@ pub fn start(file: &[u8], times: &[u32]) -> Started
         &mut edge,
         &mut starts,
         &mut order,
+        &mut pred,
     );
     let answer = h.answer;
     match answer {
         Answer::Refused(refusal) => refused_start(refusal),
-        Answer::Accepted => start_on(h.n, &wcet, &edge, &starts, times),
+        Answer::Accepted => start_on(h.n, &wcet, &pred, &edge, &starts, times),
     }
 }
 
@@ -111,16 +116,18 @@ fn tick_on(
     cores: &[u8; 10],
     kind: &[u8; 128],
     wcet: &[u32; 128],
+    pred: &[[u64; 2]; 128],
     edge: &[u16; 1024],
     starts: &[u16; 129],
     run: Run,
 ) -> Ticked
     requires { ⌜ AcceptedGraph (graphIn h (now cores) (now kind) (now wcet) (now edge)) ⌝ }
     requires { ⌜ now starts ≡ table (firstEdge (graphIn h (now cores) (now kind) (now wcet) (now edge))) 129 ⌝ }
+    requires { ⌜ Holds (now pred) (predecessor (now edge) (h .edges)) ⌝ }
     ensures { λ r. ⌜ r ≡ tickOn (graphIn h (now (cores .entry)) (now (kind .entry)) (now (wcet .entry)) (now (edge .entry))) run ⌝ }
 {
     let words = choice::of_kinds(kind, h.n);
-    if tick::suits(h.kinds, h.n, h.edges, cores, &words, wcet, edge, run) {
+    if tick::suits(h.kinds, h.n, cores, &words, wcet, pred, run) {
         run.tick(h.kinds, cores, &words, edge, starts)
     } else {
         Ticked {
@@ -142,7 +149,8 @@ pub fn tick(run: Run, file: &[u8]) -> Ticked
     let mut edge = [0u16; 1024];
     let mut starts = [0u16; 129];
     let mut order = [0u8; 128];
-    let h = reader::take(
+    let mut pred = [[0u64; 2]; 128];
+    let h = reader::take_rows(
         file,
         &mut cores,
         &mut kind,
@@ -150,6 +158,7 @@ pub fn tick(run: Run, file: &[u8]) -> Ticked
         &mut edge,
         &mut starts,
         &mut order,
+        &mut pred,
     );
     let answer = h.answer;
     match answer {
@@ -157,7 +166,7 @@ pub fn tick(run: Run, file: &[u8]) -> Ticked
             report: Report::Refused(refusal),
             run,
         },
-        Answer::Accepted => tick_on(h, &cores, &kind, &wcet, &edge, &starts, run),
+        Answer::Accepted => tick_on(h, &cores, &kind, &wcet, &pred, &edge, &starts, run),
     }
 }
 
@@ -167,12 +176,13 @@ fn play_into(
     n: usize,
     cores: &[u8; 10],
     kind: &[u8; 128],
+    pred: &[[u64; 2]; 128],
     edge: &[u16; 1024],
     starts: &[u16; 129],
     times: &[u32],
     finishes: &mut [u32],
 ) -> Played
-    requires { ⌜ ((g : Graph) × GraphOf g kinds n (now cores) (now kind) (now edge) (now starts) × Fitting g (now times)) ⌝ }
+    requires { ⌜ ((g : Graph) × GraphOf g kinds n (now cores) (now kind) (now edge) (now starts) × Fitting g (now times) × Holds (now pred) (predecessor (g .edge) (g .edges))) ⌝ }
     ensures { λ r. ⌜ ((g : Graph) → GraphOf g kinds n (now (cores .entry)) (now (kind .entry)) (now (edge .entry)) (now (starts .entry)) → Fitting g (now (times .entry)) → (r ≡ playIn g (now (times .entry)) (length (now (finishes .entry)))) × (now (finishes .exit) ≡ filledBeside r g (now (times .entry)) (now (finishes .entry)))) ⌝ }
 {
     if finishes.len() < n {
@@ -181,7 +191,7 @@ fn play_into(
             place: 0,
         });
     }
-    let begun = times::begun(n, edge, starts, times);
+    let begun = times::begun(n, pred, edge, starts, times);
     let done = leaps::play(kinds, n, cores, kind, edge, starts, begun);
     let table = done.finishes;
     lent::hand_over(table, n, finishes);
@@ -193,6 +203,7 @@ fn play_on(
     cores: &[u8; 10],
     kind: &[u8; 128],
     wcet: &[u32; 128],
+    pred: &[[u64; 2]; 128],
     edge: &[u16; 1024],
     starts: &[u16; 129],
     times: &[u32],
@@ -200,12 +211,23 @@ fn play_on(
 ) -> Played
     requires { ⌜ AcceptedGraph (graphIn h (now cores) (now kind) (now wcet) (now edge)) ⌝ }
     requires { ⌜ now starts ≡ table (firstEdge (graphIn h (now cores) (now kind) (now wcet) (now edge))) 129 ⌝ }
+    requires { ⌜ Holds (now pred) (predecessor (now edge) (h .edges)) ⌝ }
     ensures { λ r. ⌜ (r ≡ playOn (graphIn h (now (cores .entry)) (now (kind .entry)) (now (wcet .entry)) (now (edge .entry))) (now (times .entry)) (length (now (finishes .entry)))) × (now (finishes .exit) ≡ filledBeside r (graphIn h (now (cores .entry)) (now (kind .entry)) (now (wcet .entry)) (now (edge .entry))) (now (times .entry)) (now (finishes .entry))) ⌝ }
 {
     let answer = times::judge(h.n, wcet, times);
     match answer {
         Answer::Refused(refusal) => Played::Refused(refusal),
-        Answer::Accepted => play_into(h.kinds, h.n, cores, kind, edge, starts, times, finishes),
+        Answer::Accepted => play_into(
+            h.kinds,
+            h.n,
+            cores,
+            kind,
+            pred,
+            edge,
+            starts,
+            times,
+            finishes,
+        ),
     }
 }
 
@@ -219,7 +241,8 @@ pub fn run(file: &[u8], times: &[u32], finishes: &mut [u32]) -> Played
     let mut edge = [0u16; 1024];
     let mut starts = [0u16; 129];
     let mut order = [0u8; 128];
-    let h = reader::take(
+    let mut pred = [[0u64; 2]; 128];
+    let h = reader::take_rows(
         file,
         &mut cores,
         &mut kind,
@@ -227,11 +250,22 @@ pub fn run(file: &[u8], times: &[u32], finishes: &mut [u32]) -> Played
         &mut edge,
         &mut starts,
         &mut order,
+        &mut pred,
     );
     let answer = h.answer;
     match answer {
         Answer::Refused(refusal) => Played::Refused(refusal),
-        Answer::Accepted => play_on(h, &cores, &kind, &wcet, &edge, &starts, times, finishes),
+        Answer::Accepted => play_on(
+            h,
+            &cores,
+            &kind,
+            &wcet,
+            &pred,
+            &edge,
+            &starts,
+            times,
+            finishes,
+        ),
     }
 }
 

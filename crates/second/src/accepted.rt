@@ -5,6 +5,7 @@ ghost use lib.ListN.{getD};
 ghost use Rattle.model.specs.Places.{padded};
 ghost use Rattle.graph.specs.Model.{asModel};
 ghost use Rattle.reader.specs.Laid.{graphIn, Usable};
+ghost use Rattle.rows.specs.Rows.{Kin};
 ghost use Rattle.second.specs.Answers.{SecondIn};
 ghost use Rattle.second.specs.Shares.{shareBy};
 use crate::Seconded;
@@ -37,29 +38,32 @@ pub(crate) fn second_of<'a>(
     edge: &'a [u16; 1024],
     start: &'a [u16; 129],
     order: &'a [u8; 128],
+    pred: &'a [[u64; 2]; 128],
+    anc: &'a [[u64; 2]; 128],
 ) -> Seconded
     requires { ⌜ Usable h (now cores) (now kind) (now wcet) (now edge) (now start) (now order) ⌝ }
+    requires { ⌜ Kin (graphIn h (now cores) (now kind) (now wcet) (now edge)) (now pred) (now anc) ⌝ }
     ensures { λ r. ⌜ SecondIn (asModel (graphIn h (now (cores .entry)) (now (kind .entry)) (now (wcet .entry)) (now (edge .entry)))) r ⌝ }
 {
     let n = h.n;
-    let waiting = waiting::counted(edge, start[128]);
+    let led = rows::led(pred, n);
     let ways = ways::table(edge, start, order, n);
-    let count = ways::whole(&waiting, &ways, n);
+    let count = ways::whole(&led, &ways, n);
     if 4096 < count {
         return nothing(Refusal {
             number: 17,
             place: 0,
         });
     }
-    let mut rows = [[0u64; 2]; 128];
-    parallel::rows(kind, edge, start, order, n, &mut rows);
+    let mut beside = [[0u64; 2]; 128];
+    parallel::beside(kind, edge, start, order, *anc, n, &mut beside);
     let share = shares(cores, h.kinds);
     let parts = visit::largest(
         edge,
         start,
         &ways,
-        &waiting,
-        &rows,
+        &led,
+        &beside,
         kind,
         wcet,
         &share,

@@ -36,7 +36,9 @@ pub fn second(file: &[u8]) -> Seconded
     let mut edge = [0u16; 1024];
     let mut starts = [0u16; 129];
     let mut order = [0u8; 128];
-    let h = reader::take(
+    let mut pred = [[0u64; 2]; 128];
+    let mut anc = [[0u64; 2]; 128];
+    let h = reader::take_kin(
         file,
         &mut cores,
         &mut kind,
@@ -44,11 +46,15 @@ pub fn second(file: &[u8]) -> Seconded
         &mut edge,
         &mut starts,
         &mut order,
+        &mut pred,
+        &mut anc,
     );
     let answer = h.answer;
     match answer {
         Answer::Refused(refusal) => nothing(refusal),
-        Answer::Accepted => accepted::second_of(h, &cores, &kind, &wcet, &edge, &starts, &order),
+        Answer::Accepted => {
+            accepted::second_of(h, &cores, &kind, &wcet, &edge, &starts, &order, &pred, &anc)
+        }
     }
 }
 
@@ -59,7 +65,20 @@ pub fn of_graph(g: Graph) -> Seconded
     ensures { λ r. ⌜ SecondIn (asModel g) r ⌝ }
 {
     let mut starts = [0u16; 129];
-    let order = reader::along(g, &mut starts);
+    let mut pred = [[0u64; 2]; 128];
+    let mut anc = [[0u64; 2]; 128];
+    let order = reader::along_rows(g, &mut starts, &mut pred);
+    rows::ancestors(&order, g.n, &pred, &mut anc);
     let h = reader::header_of(g);
-    accepted::second_of(h, &g.cores, &g.kind, &g.wcet, &g.edge, &starts, &order)
+    accepted::second_of(
+        h,
+        &g.cores,
+        &g.kind,
+        &g.wcet,
+        &g.edge,
+        &starts,
+        &order,
+        &pred,
+        &anc,
+    )
 }

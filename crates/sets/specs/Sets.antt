@@ -1,5 +1,3 @@
--- For our own layers alone: no contract for callers and no claim cites this file.
---
 -- A table with a set for each of the numbers below 128: a row of two words.
 --
 --   rowOf t v       the set in row v of the table t

@@ -2,6 +2,7 @@
 use mathlib.Core.Path.{_≡_, refl, sym, ap, _∙_, fun-ext}
 use mathlib.Core.Logic.{_⊎_, inl, inr, ⊎-elim}
 use mathlib.Core.Bool.{Bool, true, false, not, _&&_, _||_, and-false}
+use mathlib.Core.List.{List}
 use Prim.Native.Nat.{ℕ, _+_, _≤_, _<_, zero-le}
 use native.Mathlib.Omega.{arith}
 use lib.Dec.{eqb, ltb, leb}
@@ -16,6 +17,8 @@ use Rattle.graph.specs.declared.Graph.{Graph}
 use Rattle.graph.specs.Model.{asModel, AcceptedGraph}
 use Rattle.vset.specs.declared.Vset.{Vset}
 use Rattle.vset.specs.Members.{isIn, Members}
+use Rattle.sets.specs.Sets.{Holds}
+use Rattle.rows.specs.Rows.{predecessor}
 use Rattle.tick.specs.declared.Run.{Run}
 use Rattle.tick.specs.Run.{MOST, leftOf, waitingOf, stateOf, awaited}
 use Rattle.ready.specs.Ready.{someLeft, isBehind}
@@ -185,11 +188,11 @@ module _ (g : Graph) (r : Run) where
       unfolding suits
       suits-settled t = settles (right-of (suitsBefore g r) (numbersRight g r) t)
 
-      pub numbers-tested : selfCounted (g .edge) (g .edges) (r .waiting) busy (isIn behind) ≡ numbersRight g r
+      pub numbers-tested : (p : List (List ℕ)) → Holds p (predecessor (g .edge) (g .edges)) → selfCounted p (r .waiting) busy (isIn behind) ≡ numbersRight g r
       unfolding someLeft leftOf
-      numbers-tested = same-test (selfCounted (g .edge) (g .edges) (r .waiting) busy (isIn behind)) (numbersRight g r)
-          (λ t. numbers-complete (listed-numbers g A r (settled-awaited g A (leftOf r) busy is-busy (r .waiting) behind (agreed g A (r .waiting) busy behind long is-behind t))))
-          (λ t. agrees g A (r .waiting) busy behind (settles t))
+      numbers-tested p H = same-test (selfCounted p (r .waiting) busy (isIn behind)) (numbersRight g r)
+          (λ t. numbers-complete (listed-numbers g A r (settled-awaited g A (leftOf r) busy is-busy (r .waiting) behind (agreed g A p H (r .waiting) busy behind long is-behind t))))
+          (λ t. agrees g A p H (r .waiting) busy behind (settles t))
 
       pub standing : numbersRight g r ≡ true → (v : ℕ) → isIn behind v ≡ isBehind (asModel g) (someLeft (r .left)) v
       standing t v = settled-behind g A (r .waiting) busy behind (settles t) v ∙ ap (λ (p : ℕ → Bool). isBehind (asModel g) p v) (fun-ext is-busy)

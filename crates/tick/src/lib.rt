@@ -77,21 +77,20 @@ impl Run {
 }
 
 // Whether the record suits the graph. The WCETs are zero from N on and no vertex is ready there, so that one test over all places
-// tells both what holds below N and that the places from N on are zero, and another that they are unmarked. No edge leads there either,
-// so that numbers that agree with the edges are zero there. Who stands behind another is told by the numbers, which are counted afresh here
+// tells both what holds below N and that the places from N on are zero, and another that they are unmarked. Their rows are empty too, so
+// that numbers that agree with the rows are zero there. Who stands behind another is told by the numbers, which are counted afresh here
 // and nowhere else: where they are wrong the record does not suit anyway.
 pub fn suits(
     kinds: usize,
     n: usize,
-    edges: usize,
     cores: &[u8; 10],
     words: &[u64; 20],
     wcet: &[u32; 128],
-    edge: &[u16; 1024],
+    pred: &[[u64; 2]; 128],
     run: Run,
 ) -> bool
-    requires { ⌜ ((g : Graph) × TestOf g kinds n edges (now cores) (now words) (now wcet) (now edge)) ⌝ }
-    ensures { λ r. ⌜ ((g : Graph) → TestOf g kinds n edges (now (cores .entry)) (now (words .entry)) (now (wcet .entry)) (now (edge .entry)) → r ≡ suits g run) ⌝ }
+    requires { ⌜ ((g : Graph) × TestOf g kinds n (now cores) (now words) (now wcet) (now pred)) ⌝ }
+    ensures { λ r. ⌜ ((g : Graph) → TestOf g kinds n (now (cores .entry)) (now (words .entry)) (now (wcet .entry)) (now (pred .entry)) → r ≡ suits g run) ⌝ }
 {
     let left = run.left;
     let waiting = run.waiting;
@@ -105,6 +104,6 @@ pub fn suits(
     let timely = remains::in_time(run.instant, remains::total(left, n), MOST);
     let marked = vset::is_empty(vset::minus(ran, able));
     let fair = choice::fair(kinds, cores, words, ran);
-    let numbers = waiting::agree(edge, edges, waiting, busy, behind);
+    let numbers = waiting::agree(pred, waiting, busy, behind);
     (same & (within & (timely & (marked & fair)))) & numbers
 }

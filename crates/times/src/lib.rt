@@ -7,6 +7,8 @@ ghost use Rattle.model.specs.Places.{first, padded};
 ghost use Rattle.model.specs.ListSchedule.{begin};
 ghost use Rattle.graph.specs.declared.Graph.{Graph};
 ghost use Rattle.graph.specs.Model.{asModel};
+ghost use Rattle.sets.specs.Sets.{Holds};
+ghost use Rattle.rows.specs.Rows.{predecessor};
 ghost use Rattle.tick.specs.Run.{recordOf};
 ghost use Rattle.tick.specs.Lists.{EdgesOf};
 ghost use Rattle.times.specs.Times.{timesOf, tooLong, judgeTimes};
@@ -64,15 +66,21 @@ fn laid(n: usize, times: &[u32]) -> [u32; 128]
 }
 
 // The record at instant 0: nothing has run, and each vertex waits for its predecessors but for those that are finished at once.
-pub fn begun(n: usize, edge: &[u16; 1024], starts: &[u16; 129], times: &[u32]) -> Run
-    requires { ⌜ ((g : Graph) × EdgesOf g n (now edge) (now starts)) ⌝ }
+pub fn begun(
+    n: usize,
+    pred: &[[u64; 2]; 128],
+    edge: &[u16; 1024],
+    starts: &[u16; 129],
+    times: &[u32],
+) -> Run
+    requires { ⌜ ((g : Graph) × EdgesOf g n (now edge) (now starts) × Holds (now pred) (predecessor (g .edge) (g .edges))) ⌝ }
     requires { ⌜ length (now times) ≡ n ⌝ }
     ensures { λ r. ⌜ ((g : Graph) → EdgesOf g n (now (edge .entry)) (now (starts .entry)) → r ≡ recordOf (asModel g) 0 (begin (timesOf (now (times .entry))))) ⌝ }
 {
     let left = laid(n, times);
     let ran = vset::none();
     let busy = ready::busy(left);
-    let begun = waiting::begun(edge, starts, n, busy);
+    let begun = waiting::begun(pred, edge, starts, n, busy);
     let waiting = begun.waiting;
     Run {
         n,

@@ -39,7 +39,8 @@ use Rattle.sets.specs.Sets.{rowOf}
 use Rattle.parallel.specs.Rows.{beside}
 use Rattle.visit.specs.declared.cell.Cell.{Cell}
 use Rattle.visit.specs.declared.choose.Step.{Step}
-use Rattle.visit.specs.Cells.{Ground, Laid, Sources, Open, Stands, totalOf, Opened, Chosen, Begun}
+use Rattle.paths.specs.Ahead.{Sources}
+use Rattle.visit.specs.Cells.{Ground, Laid, Open, Stands, totalOf, Opened, Chosen, Begun}
 
 -- the paths that go on with v have the numbers from base on, and the value x where U is beside them
 abbrev pub Passing : model.Graph → (ℕ → Bool) → ℕ → ℕ → ℕ → Type 0

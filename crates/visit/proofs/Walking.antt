@@ -23,7 +23,8 @@ use Rattle.vset.specs.Members.{Members}
 use Rattle.summary.specs.Row.{many, nth, Row}
 use Rattle.visit.specs.declared.cell.Cell.{Cell}
 use Rattle.visit.specs.declared.choose.Step.{Step}
-use Rattle.visit.specs.Cells.{Ground, Laid, Sources, cellOf, cellWords, Stands, Kept, Reached, Ended, Opened, Chosen, Begun}
+use Rattle.paths.specs.Ahead.{Sources}
+use Rattle.visit.specs.Cells.{Ground, Laid, cellOf, cellWords, Stands, Kept, Reached, Ended, Opened, Chosen, Begun}
 use Rattle.visit.proofs.Opening.{Passing, few-vertices, number, stands, source-passing, row-there, row-ways, at-end, child-known, child-deep, child-passing}
 
 ofWords : List ℕ → Cell

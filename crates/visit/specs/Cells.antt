@@ -6,7 +6,6 @@
 --   Ground g wy r k c sh    the tables are those of the accepted graph g, which has no more than 4,096 complete paths: wy the numbers of paths, r the
 --                           rows of the parallel vertices, k the kinds, c the WCETs, sh the share that a core of each kind is
 --   Laid g e st             e is the edge list of g, and st where each vertex's edges begin
---   Sources g w             w has 0 at the sources of g
 --   cellOf l i              the cell at place i of the table l
 --   cellWords c             the words of a cell
 --   Open G c                whatever path has its number among those of the cell: its value is that of the cell, carried on
@@ -25,7 +24,7 @@ use Prim.Native.Nat.{ℕ, _+_, _-_, _*_, _/_, _≤_, _<_}
 use lib.Dec.{eqb}
 use lib.ListN.{getD, length}
 use Rattle.model.specs.Places.{pick, sum, count}
-use Rattle.model.specs.Graph.{Graph, source}
+use Rattle.model.specs.Graph.{Graph}
 use Rattle.model.specs.Cycle.{ancestor}
 use Rattle.model.specs.Bounds.{PARTS}
 use Rattle.model.specs.Second.{second}
@@ -55,9 +54,6 @@ pub record Ground (g : reader.Graph) (wy : List ℕ) (r : List (List ℕ)) (k c 
 pub record Laid (g : reader.Graph) (e st : List ℕ) : Type 0 where
   pub order : List ℕ
   pub lists : Weighed g e st order (g .n) []
-
-abbrev pub Sources : reader.Graph → List ℕ → Type 0
-Sources g w = (v : ℕ) → v < g .n → eqb (getD w v 0) 0 ≡ source (asModel g) v
 
 abbrev pub cellOf : List (List ℕ) → ℕ → Cell
 cellOf l i = record {

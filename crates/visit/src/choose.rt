@@ -15,15 +15,15 @@ pub struct Step {
 }
 
 // The source of the path with the number k.
-pub(crate) fn source(waiting: &[u8; 128], ways: &[u16; 128], n: usize, k: u64) -> Step
-    requires { ⌜ (n ≤ 128) × (k ≤ 4096) × (k < sum (fromSource (now waiting) (now ways)) n) ⌝ }
+pub(crate) fn source(led: &[u8; 128], ways: &[u16; 128], n: usize, k: u64) -> Step
+    requires { ⌜ (n ≤ 128) × (k ≤ 4096) × (k < sum (fromSource (now led) (now ways)) n) ⌝ }
     requires { ⌜ ((v : ℕ) → getD (now ways) v 0 ≤ 4097) ⌝ }
-    ensures { λ r. ⌜ Begun (now (waiting .entry)) (now (ways .entry)) n k r ⌝ }
+    ensures { λ r. ⌜ Begun (now (led .entry)) (now (ways .entry)) n k r ⌝ }
 {
     let mut base: u64 = 0;
     let mut v: usize = 0;
     while v < n {
-        let next = base + ways::from_source(waiting[v], ways[v]) as u64;
+        let next = base + ways::from_source(led[v], ways[v]) as u64;
         if k < next {
             return Step { v, base };
         }

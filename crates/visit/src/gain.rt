@@ -7,8 +7,8 @@ ghost use Rattle.visit.specs.Cells.{totalOf, Opened};
 use crate::cell::Cell;
 use vset::Vset;
 
-// The WCETs of a set added up.
-fn ticks(wcet: &[u32; 128], s: Vset) -> u64
+// The WCETs of a set added up, member by member.
+fn each(wcet: &[u32; 128], s: Vset) -> u64
     requires { ⌜ ((v : ℕ) → getD (now wcet) v 0 ≤ 1000000) ⌝ }
     ensures { λ r. ⌜ r ≡ totalOf (now (wcet .entry)) (isIn s) ⌝ }
 {
@@ -21,6 +21,16 @@ fn ticks(wcet: &[u32; 128], s: Vset) -> u64
         rest = next.rest;
     }
     total
+}
+
+// The same, word by word: where one of the words is known to be 0, the compiler leaves out the test of it for each member.
+fn ticks(wcet: &[u32; 128], s: Vset) -> u64
+    requires { ⌜ ((v : ℕ) → getD (now wcet) v 0 ≤ 1000000) ⌝ }
+    ensures { λ r. ⌜ r ≡ totalOf (now (wcet .entry)) (isIn s) ⌝ }
+{
+    let low = Vset { lo: s.lo, hi: 0 };
+    let high = Vset { lo: 0, hi: s.hi };
+    each(wcet, low) + each(wcet, high)
 }
 
 // The cell of v after a path that has `beside` beside it and the value `value`: v adds its WCET, and its share of the WCETs of those parallel to it

@@ -7,7 +7,8 @@ ghost use Rattle.model.specs.Second.{NewB2};
 ghost use Rattle.model.specs.PathCount.{pathCount};
 ghost use Rattle.graph.specs.declared.Graph.{Graph};
 ghost use Rattle.graph.specs.Model.{asModel};
-ghost use Rattle.visit.specs.Cells.{Ground, Laid, Sources, cellOf, Kept, Reached, Ended};
+ghost use Rattle.paths.specs.Ahead.{Sources};
+ghost use Rattle.visit.specs.Cells.{Ground, Laid, cellOf, Kept, Reached, Ended};
 use cell::at;
 use cell::put;
 use choose::child;
@@ -47,7 +48,7 @@ fn shared(cells: &[[u64; 5]; 128], ways: &[u16; 128], depth: usize, k: u64) -> u
 
 // The cell of its source, where it has none of them.
 fn rooted(
-    waiting: &[u8; 128],
+    led: &[u8; 128],
     ways: &[u16; 128],
     rows: &[[u64; 2]; 128],
     kind: &[u8; 128],
@@ -58,13 +59,13 @@ fn rooted(
     depth: usize,
     k: u64,
 ) -> usize
-    requires { ⌜ ((g : Graph) × Ground g (now ways) (now rows) (now kind) (now wcet) (now share) × Sources g (now waiting) × (n ≡ g .n) × (k < pathCount (asModel g)) × Kept (asModel g) (now cells) depth k) ⌝ }
-    ensures { λ r. ⌜ ((g : Graph) → Ground g (now (ways .entry)) (now (rows .entry)) (now (kind .entry)) (now (wcet .entry)) (now (share .entry)) → Sources g (now (waiting .entry)) → n ≡ g .n → k < pathCount (asModel g) → Kept (asModel g) (now (cells .entry)) depth k → Reached (asModel g) (now (cells .exit)) r k) ⌝ }
+    requires { ⌜ ((g : Graph) × Ground g (now ways) (now rows) (now kind) (now wcet) (now share) × Sources g (now led) × (n ≡ g .n) × (k < pathCount (asModel g)) × Kept (asModel g) (now cells) depth k) ⌝ }
+    ensures { λ r. ⌜ ((g : Graph) → Ground g (now (ways .entry)) (now (rows .entry)) (now (kind .entry)) (now (wcet .entry)) (now (share .entry)) → Sources g (now (led .entry)) → n ≡ g .n → k < pathCount (asModel g) → Kept (asModel g) (now (cells .entry)) depth k → Reached (asModel g) (now (cells .exit)) r k) ⌝ }
 {
     if 0 < depth {
         return depth;
     }
-    let s = source(waiting, ways, n, k);
+    let s = source(led, ways, n, k);
     let c = opened(rows, kind, wcet, share, s.v, s.base, vset::none(), 0);
     put(cells, 0, c);
     1
@@ -102,7 +103,7 @@ pub fn largest(
     edge: &[u16; 1024],
     start: &[u16; 129],
     ways: &[u16; 128],
-    waiting: &[u8; 128],
+    led: &[u8; 128],
     rows: &[[u64; 2]; 128],
     kind: &[u8; 128],
     wcet: &[u32; 128],
@@ -110,8 +111,8 @@ pub fn largest(
     n: usize,
     count: u64,
 ) -> u64
-    requires { ⌜ ((g : Graph) × Ground g (now ways) (now rows) (now kind) (now wcet) (now share) × Laid g (now edge) (now start) × Sources g (now waiting) × (n ≡ g .n) × (count ≡ pathCount (asModel g))) ⌝ }
-    ensures { λ r. ⌜ ((g : Graph) → Ground g (now (ways .entry)) (now (rows .entry)) (now (kind .entry)) (now (wcet .entry)) (now (share .entry)) → Laid g (now (edge .entry)) (now (start .entry)) → Sources g (now (waiting .entry)) → n ≡ g .n → count ≡ pathCount (asModel g) → NewB2 (asModel g) r) ⌝ }
+    requires { ⌜ ((g : Graph) × Ground g (now ways) (now rows) (now kind) (now wcet) (now share) × Laid g (now edge) (now start) × Sources g (now led) × (n ≡ g .n) × (count ≡ pathCount (asModel g))) ⌝ }
+    ensures { λ r. ⌜ ((g : Graph) → Ground g (now (ways .entry)) (now (rows .entry)) (now (kind .entry)) (now (wcet .entry)) (now (share .entry)) → Laid g (now (edge .entry)) (now (start .entry)) → Sources g (now (led .entry)) → n ≡ g .n → count ≡ pathCount (asModel g) → NewB2 (asModel g) r) ⌝ }
 {
     let mut cells = [[0u64; 5]; 128];
     let mut best: u64 = 0;
@@ -119,7 +120,7 @@ pub fn largest(
     let mut k: u64 = 0;
     while k < count {
         let d = shared(&cells, ways, depth, k);
-        let from = rooted(waiting, ways, rows, kind, wcet, share, n, &mut cells, d, k);
+        let from = rooted(led, ways, rows, kind, wcet, share, n, &mut cells, d, k);
         depth = descend(
             edge,
             start,

@@ -3,17 +3,15 @@
 use mathlib.Core.Path.{_≡_, refl, sym, ap, _∙_, fun-ext}
 use mathlib.Core.Logic.{_⊎_, inl, inr, ⊎-elim}
 use mathlib.Core.List.{List}
-use mathlib.Core.Bool.{Bool, true, false, not, _&&_, _||_, and-true, and-false}
-use Prim.Native.Nat.{ℕ, zero, suc, _+_, _≤_, _<_}
+use mathlib.Core.Bool.{Bool, true, false, not, _&&_, _||_}
+use Prim.Native.Nat.{ℕ, zero, suc, _≤_, _<_}
 use native.Mathlib.Omega.{arith}
 use lib.Dec.{eqb, ltb}
-use lib.ListN.{getD, length, set}
+use lib.ListN.{getD, length}
 use lib.Seq.{ext-getD}
 use borrow.Author.Tests.{lt-ltb, ltb-true, eq-eqb, eqb-true}
-use Rattle.model.specs.Places.{pick, bit, count}
 use Rattle.model.proofs.Bools.{clash, le-or-lt, both, left-of, right-of, or-left, or-right, or-cases, not-is-true, same-test}
-use Rattle.model.proofs.Places.{count-more, count-ext, count-up, count-sub, count-some, some-counted}
-use Rattle.model.proofs.Turns.{put-at}
+use Rattle.model.proofs.Places.{count-ext, count-some, some-counted}
 use Rattle.vset.specs.declared.Vset.{Vset}
 use Rattle.vset.specs.Members.{isIn}
 use Rattle.vset.proofs.Words.{past-none}
@@ -81,45 +79,6 @@ settled-one l starts L w w′ busy b b′ S S′ = (
     same = closed-one l (edgesBy starts) busy (L .rank) (L .rises) (isIn b) (isIn b′) (settled-closed l (edgesBy starts) w busy b S known) (settled-closed l (edgesBy starts) w′ busy b′ S′ known)
 
 -- ---- before a run has begun
-
-pub entering-none : (l : List ℕ) (p : ℕ → Bool) (v : ℕ) → entering l p 0 v ≡ 0
-unfolding entering count
-entering-none l p v = refl
-
-pub entering-more : (l : List ℕ) (p : ℕ → Bool) (i v : ℕ) → entering l p (i + 1) v ≡ entering l p i v + bit (p (comesFrom l i) && eqb (leadsTo l i) v)
-unfolding entering
-entering-more l p i v = count-more (λ i. p (comesFrom l i) && eqb (leadsTo l i) v) i
-
-pub entering-up : (l : List ℕ) (p : ℕ → Bool) (i m v : ℕ) → i ≤ m → entering l p i v ≤ entering l p m v
-unfolding entering
-entering-up l p i m v h = count-up (λ i. p (comesFrom l i) && eqb (leadsTo l i) v) i m h
-
--- no test counts more edges than there are
-pub entering-most : (l : List ℕ) (p : ℕ → Bool) (m v : ℕ) → entering l p m v ≤ entering l (λ u. true) m v
-unfolding entering
-entering-most l p m v = count-sub (λ i. p (comesFrom l i) && eqb (leadsTo l i) v) (λ i. true && eqb (leadsTo l i) v) m (λ i h t. right-of (p (comesFrom l i)) (eqb (leadsTo l i) v) t)
-
--- where a table counts the edges before i, and the count at the end of edge i goes up where its beginning has p, it counts edge i as well
-pub entered : (l w : List ℕ) (p : ℕ → Bool) (i v : ℕ) → length w ≡ 128 → leadsTo l i < 128 → getD w v 0 ≡ entering l p i v
-    → getD (set w (leadsTo l i) (getD w (leadsTo l i) 0 + bit (p (comesFrom l i)))) v 0 ≡ entering l p (i + 1) v
-entered l w p i v long h e =
-    put-at w t (getD w t 0 + bit b) v (omega (arith, long)) ∙ go (eqb v t) (eqb t v) turn (λ q. ap (λ (x : ℕ). getD w x 0) (sym (eqb-true v t q)))
-    ∙ ap (λ (x : ℕ). x + bit (b && eqb t v)) e ∙ sym (entering-more l p i v)
-  where
-    b : Bool
-    b = p (comesFrom l i)
-
-    t : ℕ
-    t = leadsTo l i
-
-    turn : eqb v t ≡ eqb t v
-    turn = same-test (eqb v t) (eqb t v) (λ q. eq-eqb t v (sym (eqb-true v t q))) (λ q. eq-eqb v t (sym (eqb-true t v q)))
-
-    go : (a c : Bool) → a ≡ c → (a ≡ true → getD w t 0 ≡ getD w v 0) → pick a (getD w t 0 + bit b) (getD w v 0) ≡ getD w v 0 + bit (b && c)
-    go true true q f = ap (λ (x : ℕ). x + bit b) (f refl) ∙ ap (λ (d : Bool). getD w v 0 + bit d) (sym (and-true b))
-    go true false q f = absurd (clash refl q)
-    go false true q f = absurd (clash q refl)
-    go false false q f = rw (and-false b) (omega arith)
 
 -- each edge counts, since each vertex is busy, stands behind another, or has its successors to tell
 pub unsettled-all : (l : List ℕ) (m n : ℕ) (w : List ℕ) (busy behind done : ℕ → Bool) → length w ≡ 128 → ((v : ℕ) → v < 128 → getD w v 0 ≡ entering l (λ u. true) m v) → ((i : ℕ) → i < m → comesFrom l i < n)

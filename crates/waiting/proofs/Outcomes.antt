@@ -8,15 +8,10 @@ use Rattle.waiting.proofs.settle as settle
 use Rattle.waiting.proofs.settle.Reads as settle-reads
 use Rattle.waiting.proofs.begun as begun
 use Rattle.waiting.proofs.begun.Reads as begun-reads
-use Rattle.waiting.proofs.counted as counted
-use Rattle.waiting.proofs.counted.Reads as counted-reads
 use Rattle.waiting.proofs.held as held
 use Rattle.waiting.proofs.held.Reads as held-reads
 use Rattle.waiting.proofs.agree as agree
 use Rattle.waiting.proofs.agree.Reads as agree-reads
-
-pub counted-one : OneOutcome counted.ended counted-reads.Pre counted-reads.Post
-counted-one κs a r r′ ws ws′ pre p q = (p ∙ sym q, refl)
 
 -- where there is no cycle, the busy vertices say all the numbers and who stands behind
 pub settle-one : OneOutcome settle.ended settle-reads.Pre settle-reads.Post
@@ -26,7 +21,7 @@ settle-one κs a r r′ ws ws′ pre p q =
 
 pub begun-one : OneOutcome begun.ended begun-reads.Pre begun-reads.Post
 begun-one κs a r r′ ws ws′ pre p q =
-    let e = settled-one (now (a .0)) (now (a .1 .0)) (pre .0) (r .waiting) (r′ .waiting) _ (r .behind) (r′ .behind) p q in
+    let e = settled-one (now (a .1 .0)) (now (a .1 .1 .0)) (pre .0) (r .waiting) (r′ .waiting) _ (r .behind) (r′ .behind) p q in
     (λ i. record { waiting = e .1 i; behind = e .0 i }, refl)
 
 pub held-one : OneOutcome held.ended held-reads.Pre held-reads.Post

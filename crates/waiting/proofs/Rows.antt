@@ -1,21 +1,25 @@
--- An edge list in rows: the edges of a vertex stand together, from its start up to the next one's.
-use mathlib.Core.Path.{_≡_, refl, ap, _∙_}
-use mathlib.Core.Logic.{⊎-elim}
+-- An edge list in rows: the edges of a vertex stand together, from its start up to the next one's. What the rows of predecessors count is
+-- what the edges do.
+use mathlib.Core.Path.{_≡_, refl, sym, ap, _∙_}
+use mathlib.Core.Logic.{_⊎_, inl, inr, ⊎-elim}
 use mathlib.Core.List.{List}
 use mathlib.Core.Bool.{Bool, true, false, not, _&&_, and-true, and-false}
-use Prim.Native.Nat.{ℕ, zero, suc, _+_, _-_, _≤_, _<_}
+use Prim.Native.Nat.{ℕ, _+_, _-_, _≤_, _<_}
 use native.Mathlib.Omega.{arith}
-use native.Mathlib.Decide.{ℕ-discrete}
 use lib.Dec.{eqb, ltb, leb}
-use lib.ListN.{getD}
+use lib.ListN.{getD, length}
 use borrow.Author.Tests.{lt-ltb, le-ltb, ltb-true, le-leb, leb-true, leb-false, eq-eqb, ne-eqb, eqb-true}
-use Rattle.model.specs.Places.{bit, count, table}
+use Rattle.model.specs.Places.{bit, count, table, padded}
 use Rattle.model.proofs.Bools.{clash, le-or-lt, both, left-of, right-of, same-test}
-use Rattle.model.proofs.Places.{first-below, first-here, count-ext, count-split}
-use Rattle.model.proofs.Tables.{table-at}
-use Rattle.model.proofs.Turns.{count-past}
+use Rattle.model.proofs.Places.{first-below, first-here, count-ext, count-none, count-split}
+use Rattle.model.proofs.Tables.{table-at, padded-length, padded-at, padded-past}
+use Rattle.model.proofs.Turns.{count-past, as-table}
 use Rattle.starts.specs.Starts.{comesFrom, leadsTo, notBelow, startIn, Rows}
 use Rattle.starts.proofs.Together.{start-in}
+use Rattle.vset.specs.Members.{isIn}
+use Rattle.sets.specs.Sets.{rowOf, Holds}
+use Rattle.rows.specs.Rows.{predecessor, onesOf}
+use Rattle.rows.proofs.Ones.{edges-rise, ones-entering, all-ones}
 use Rattle.waiting.specs.Waiting.{entering, leading, edgesBy}
 
 -- one test splits another by u
@@ -78,16 +82,10 @@ module _ (l : List ℕ) (m : ℕ) (together : (i j : ℕ) → i ≤ j → j < m 
 -- ---- rows
 
 module _ {l : List ℕ} {m n : ℕ} {starts : List ℕ} (R : Rows l m n starts) where
-  edges-rise : (i d : ℕ) → i + d < m → getD l i 0 ≤ getD l (i + d) 0
-  edges-rise i zero h = let e : i + zero ≡ i = omega arith in rw e (omega arith)
-  edges-rise i (suc d) h =
-      let e : i + suc d ≡ suc (i + d) = omega arith in
-      rw e (omega (arith, edges-rise i d (omega arith), R .ascending (i + d) (omega arith)))
-
   pub rows-together : (i j : ℕ) → i ≤ j → j < m → comesFrom l i ≤ comesFrom l j
   rows-together i j h k =
       let e : i + (j - i) ≡ j = omega arith in
-      omega (arith, rw e at (edges-rise i (j - i) (omega arith)))
+      omega (arith, rw e at (edges-rise R i (j - i) (omega arith)))
 
   -- every edge comes from below 128
   pub all-edges : edgesBy starts ≡ m
@@ -99,21 +97,25 @@ module _ {l : List ℕ} {m n : ℕ} {starts : List ℕ} (R : Rows l m n starts) 
       (λ (h : startIn l m 128 < m). absurd (omega (arith, R .from-known (startIn l m 128) h, R .few-vertices, leb-true 128 (comesFrom l (startIn l m 128)) (first-here (notBelow l 128) m h))))
       (le-or-lt m (startIn l m 128))
 
-  -- of the first k edges those to v come from different vertices: no more than lie below the last of them
-  few-enter : (v k b : ℕ) → k ≤ m → ((i : ℕ) → i < k → leadsTo l i ≡ v → comesFrom l i < b) → entering l (λ u. true) k v ≤ b
-  unfolding entering count
-  few-enter v zero b h low = omega arith
-  few-enter v (suc k) b h low = go (ℕ-discrete (leadsTo l k) v) (λ c f. few-enter v k c (omega arith) f)
+  -- no edge leads to a number from n on
+  pub enter-known : (p : ℕ → Bool) (v : ℕ) → n ≤ v → entering l p m v ≡ 0
+  unfolding entering
+  enter-known p v h =
+      count-none (λ i. p (comesFrom l i) && eqb (leadsTo l i) v) m
+      (λ i b. ap (λ (x : Bool). p (comesFrom l i) && x) (ne-eqb (leadsTo l i) v (λ e. omega (arith, R .to-known i b))) ∙ and-false (p (comesFrom l i)))
+
+  -- the ones of the rows are the edges
+  pub ones-count : (p : List (List ℕ)) (w : List ℕ) → Holds p (predecessor l m) → w ≡ padded 128 (onesOf p) n → w ≡ table (entering l (λ u. true) m) 128
+  unfolding entering
+  ones-count p w H e =
+      as-table (entering l (λ u. true) m) 128 w (ap (λ (x : List ℕ). length x) e ∙ padded-length 128 (onesOf p) n (R .few-vertices))
+      (λ v h. ap (λ (x : List ℕ). getD x v 0) e ∙ at v h (le-or-lt n v))
     where
-      before : (i : ℕ) → i < k → leadsTo l i ≡ v → leadsTo l k ≡ v → comesFrom l i < comesFrom l k
-      before i f e q =
-          let s : suc i + (k - suc i) ≡ k = omega arith in
-          omega (arith, R .ascending i (omega arith), rw s at (edges-rise (suc i) (k - suc i) (omega arith)), e, q)
+      at : (v : ℕ) → v < 128 → (n ≤ v) ⊎ (v < n) → getD (padded 128 (onesOf p) n) v 0 ≡ entering l (λ u. true) m v
+      at v h (inl k) = padded-past 128 (onesOf p) n v k ∙ sym (enter-known (λ u. true) v k)
+      at v h (inr k) = padded-at 128 (onesOf p) n v k ∙ all-ones R H v h
 
-      go : Dec (leadsTo l k ≡ v) → ((c : ℕ) → ((i : ℕ) → i < k → leadsTo l i ≡ v → comesFrom l i < c) → count (λ i. eqb (leadsTo l i) v) k ≤ c)
-          → count (λ i. eqb (leadsTo l i) v) k + bit (eqb (leadsTo l k) v) ≤ b
-      go (yes e) ih = rw (eq-eqb (leadsTo l k) v e) (omega (arith, low k (omega arith) e, ih (comesFrom l k) (λ i f q. before i f q e)))
-      go (no e) ih = rw (ne-eqb (leadsTo l k) v e) (omega (arith, ih b (λ i f q. low i (omega arith) q)))
-
-  pub rows-few-to : (v : ℕ) → entering l (λ u. true) m v ≤ 128
-  rows-few-to v = few-enter v m 128 (omega arith) (λ i h e. omega (arith, R .from-known i h, R .few-vertices))
+  -- those that a row and a set have in common are the edges from that set
+  pub common-counts : (p : List (List ℕ)) → Holds p (predecessor l m) → (q : ℕ → Bool) (v : ℕ) → v < 128 → count (λ u. isIn (rowOf p v) u && q u) 128 ≡ entering l q m v
+  unfolding entering
+  common-counts p H q v h = ones-entering R q v H h

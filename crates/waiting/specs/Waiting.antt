@@ -11,7 +11,7 @@
 --   Told l a b w busy s new r          the same along the edges from place a up to b
 --   Unsettled l m w busy behind done   the numbers, where those in `done` have not told their successors
 --   Settled l m w busy behind          the numbers, where nobody has anything left to tell
---   selfCounted l m w busy behind      the numbers agree with themselves: each counts the edges from those that are busy or stand behind
+--   selfCounted p w busy behind        the numbers agree with themselves: each counts those in its row of the table p that are busy or stand behind
 use mathlib.Core.Path.{_≡_}
 use mathlib.Core.Bool.{Bool, true, false, not, _&&_, _||_}
 use mathlib.Core.List.{List}
@@ -22,6 +22,7 @@ use Rattle.model.specs.Places.{count, every, table}
 use Rattle.vset.specs.declared.Vset.{Vset}
 use Rattle.vset.specs.Members.{isIn, Members}
 use Rattle.starts.specs.Starts.{comesFrom, leadsTo, startIn}
+use Rattle.sets.specs.Sets.{rowOf}
 use Rattle.waiting.specs.declared.News.{News}
 
 unfoldable pub entering : List ℕ → (ℕ → Bool) → ℕ → ℕ → ℕ
@@ -37,7 +38,6 @@ pub record Layout (l starts : List ℕ) : Type 0 where
   pub few : edgesBy starts ≤ 1024
   pub begin : starts ≡ table (startIn l (edgesBy starts)) 129
   pub known : (i : ℕ) → i < edgesBy starts → (comesFrom l i < 128) × (leadsTo l i < 128)
-  pub few-to : (v : ℕ) → entering l (λ u. true) (edgesBy starts) v ≤ 128
   pub together : (i j : ℕ) → i ≤ j → j < edgesBy starts → comesFrom l i ≤ comesFrom l j
   pub rank : ℕ → ℕ
   pub rises : (i : ℕ) → i < edgesBy starts → rank (comesFrom l i) < rank (leadsTo l i)
@@ -64,5 +64,5 @@ pub record Settled (l : List ℕ) (m : ℕ) (w : List ℕ) (busy : ℕ → Bool)
   pub counts : (v : ℕ) → v < 128 → getD w v 0 ≡ entering l (λ u. busy u || isIn behind u) m v
   pub stand : Members behind (λ v. ltb 0 (getD w v 0))
 
-unfoldable pub selfCounted : List ℕ → ℕ → List ℕ → (ℕ → Bool) → (ℕ → Bool) → Bool
-selfCounted l m w busy behind = every (λ v. eqb (getD w v 0) (entering l (λ u. busy u || behind u) m v)) 128
+unfoldable pub selfCounted : List (List ℕ) → List ℕ → (ℕ → Bool) → (ℕ → Bool) → Bool
+selfCounted p w busy behind = every (λ v. eqb (getD w v 0) (count (λ u. isIn (rowOf p v) u && (busy u || behind u)) 128)) 128

@@ -1,14 +1,14 @@
 // Each vertex's number of unfinished predecessors. A vertex that is finished tells its successors, so that each edge is looked at once
 // in a whole run. A successor with no ticks left that waited for this one alone is finished as well, and tells its own.
 ghost use mathlib.Core.Path.{_≡_};
-ghost use mathlib.Core.Bool.{true};
 ghost use Prim.Native.Nat.{ℕ, _≤_, _<_};
-ghost use lib.Dec.{eqb, ltb};
+ghost use lib.Dec.{ltb};
 ghost use lib.ListN.{getD, length};
-ghost use Rattle.model.specs.Places.{bit, every, table};
 ghost use Rattle.vset.specs.Members.{isIn, Members};
-ghost use Rattle.waiting.specs.Waiting.{entering, leading, edgesBy, Layout, Released, Told, Unsettled, Settled, selfCounted};
-ghost use Rattle.starts.specs.Starts.{comesFrom, leadsTo};
+ghost use Rattle.starts.specs.Starts.{leadsTo, Rows};
+ghost use Rattle.sets.specs.Sets.{Holds};
+ghost use Rattle.rows.specs.Rows.{predecessor};
+ghost use Rattle.waiting.specs.Waiting.{leading, edgesBy, Layout, Released, Told, Unsettled, Settled, selfCounted};
 use vset::Vset;
 
 // Who stands behind an unfinished vertex, and who is finished and has not told its successors.
@@ -88,23 +88,6 @@ pub fn settle(
     hind
 }
 
-// How many edges lead to each vertex.
-pub fn counted(edge: &[u16; 1024], edges: u16) -> [u8; 128]
-    requires { ⌜ edges ≤ 1024 ⌝ }
-    requires { ⌜ ((i : ℕ) → i < edges → leadsTo (now edge) i < 128) ⌝ }
-    requires { ⌜ ((v : ℕ) → entering (now edge) (λ u. true) edges v ≤ 128) ⌝ }
-    ensures { λ r. ⌜ r ≡ table (entering (now (edge .entry)) (λ u. true) edges) 128 ⌝ }
-{
-    let mut waiting = [0u8; 128];
-    let mut i = 0usize;
-    while i < edges as usize {
-        let v = starts::to(edge[i]);
-        waiting[v] = waiting[v] + 1;
-        i += 1;
-    }
-    waiting
-}
-
 // The vertices that wait for another.
 pub fn held(waiting: [u8; 128]) -> Vset
     ensures { λ r. ⌜ Members r (λ v. ltb 0 (getD waiting v 0)) ⌝ }
@@ -138,64 +121,40 @@ pub struct Counters {
     pub behind: Vset,
 }
 
-// The counters of n vertices of which those in `busy` have ticks left. At first each edge counts, and whoever has no predecessor and
-// no ticks left has to tell its successors.
-pub fn begun(edge: &[u16; 1024], starts: &[u16; 129], n: usize, busy: Vset) -> Counters
+// The counters of n vertices of which those in `busy` have ticks left. At first each predecessor counts, which are the ones of a vertex's
+// row, and whoever has none and no ticks left has to tell its successors. These are read in the edge list, where they stand together: in
+// the rows they would be one bit of each row, so that all rows were looked at for each vertex.
+pub fn begun(
+    pred: &[[u64; 2]; 128],
+    edge: &[u16; 1024],
+    starts: &[u16; 129],
+    n: usize,
+    busy: Vset,
+) -> Counters
     requires { ⌜ Layout (now edge) (now starts) ⌝ }
-    requires { ⌜ n ≤ 128 ⌝ }
-    requires { ⌜ ((i : ℕ) → i < edgesBy (now starts) → comesFrom (now edge) i < n) ⌝ }
+    requires { ⌜ Rows (now edge) (edgesBy (now starts)) n (now starts) ⌝ }
+    requires { ⌜ Holds (now pred) (predecessor (now edge) (edgesBy (now starts))) ⌝ }
     ensures { λ r. ⌜ Settled (now (edge .entry)) (edgesBy (now (starts .entry))) (r .waiting) (isIn busy) (r .behind) ⌝ }
 {
-    let mut waiting = counted(edge, starts[128]);
+    let mut waiting = rows::counted(pred, n);
     let hind = held(waiting);
     let done = vset::minus(all(n), vset::either(busy, hind));
     let behind = settle(edge, starts, &mut waiting, busy, hind, done);
     Counters { waiting, behind }
 }
 
-fn one(on: bool) -> u8
-    ensures { λ r. ⌜ r ≡ bit on ⌝ }
+// Whether the numbers are right. They are taken at their word: a vertex is unfinished where it has ticks left or its number is not 0, and
+// the predecessors that are so are the ones that these and a vertex's row have in common. Where there is no cycle, only the right numbers
+// agree with themselves.
+pub fn agree(pred: &[[u64; 2]; 128], waiting: [u8; 128], busy: Vset, behind: Vset) -> bool
+    ensures { λ r. ⌜ r ≡ selfCounted (now (pred .entry)) waiting (isIn busy) (isIn behind) ⌝ }
 {
-    if on { 1 } else { 0 }
-}
-
-// How many edges lead to each vertex from one of the set.
-fn recounted(edge: &[u16; 1024], edges: usize, some: Vset) -> [u8; 128]
-    requires { ⌜ edges ≤ 1024 ⌝ }
-    requires { ⌜ ((i : ℕ) → i < edges → (comesFrom (now edge) i < 128) × (leadsTo (now edge) i < 128)) ⌝ }
-    requires { ⌜ ((v : ℕ) → entering (now edge) (λ u. true) edges v ≤ 128) ⌝ }
-    ensures { λ r. ⌜ r ≡ table (entering (now (edge .entry)) (isIn some) edges) 128 ⌝ }
-{
-    let mut waiting = [0u8; 128];
-    let mut i = 0usize;
-    while i < edges {
-        let v = starts::to(edge[i]);
-        waiting[v] = waiting[v] + one(vset::test(some, starts::from(edge[i])));
-        i += 1;
-    }
-    waiting
-}
-
-fn same(a: [u8; 128], b: [u8; 128]) -> bool
-    ensures { λ r. ⌜ r ≡ every (λ v. eqb (getD a v 0) (getD b v 0)) 128 ⌝ }
-{
+    let some = vset::either(busy, behind);
     let mut ok = true;
     let mut v = 0usize;
     while v < 128 {
-        ok = ok & (a[v] == b[v]);
+        ok = ok & (waiting[v] as u32 == rows::common(pred, v, some));
         v += 1;
     }
     ok
-}
-
-// Whether the numbers are right. They are taken at their word: a vertex is unfinished where it has ticks left or its number is not 0, and
-// one pass over the edges counts the predecessors that are so. Where there is no cycle, only the right numbers agree with themselves.
-pub fn agree(edge: &[u16; 1024], edges: usize, waiting: [u8; 128], busy: Vset, behind: Vset) -> bool
-    requires { ⌜ edges ≤ 1024 ⌝ }
-    requires { ⌜ ((i : ℕ) → i < edges → (comesFrom (now edge) i < 128) × (leadsTo (now edge) i < 128)) ⌝ }
-    requires { ⌜ ((v : ℕ) → entering (now edge) (λ u. true) edges v ≤ 128) ⌝ }
-    ensures { λ r. ⌜ r ≡ selfCounted (now (edge .entry)) edges waiting (isIn busy) (isIn behind) ⌝ }
-{
-    let some = vset::either(busy, behind);
-    same(waiting, recounted(edge, edges, some))
 }

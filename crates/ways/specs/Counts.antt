@@ -1,7 +1,7 @@
 -- For our own layers alone: no contract for callers and no claim cites this file.
 --
--- The numbers of paths as a table, each cut at 4,097. e is an edge list, st where each vertex's edges begin, w how many predecessors each vertex
--- has, t a table of numbers.
+-- The numbers of paths as a table, each cut at 4,097. e is an edge list, st where each vertex's edges begin, w has 0 for each vertex that
+-- nobody leads to, t is a table of numbers.
 --
 --   Counts G t         t has the number of paths from each vertex of G to a sink, cut; unused places are zero
 --   onwardBy e st t u  the number of u, by those of the vertices that its edges go to: 1 where it has none

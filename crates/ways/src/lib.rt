@@ -54,22 +54,22 @@ pub fn table(edge: &[u16; 1024], start: &[u16; 129], order: &[u8; 128], n: usize
     ways
 }
 
-pub fn from_source(waiting: u8, ways: u16) -> u16
-    ensures { λ r. ⌜ r ≡ pick (eqb waiting 0) ways 0 ⌝ }
+pub fn from_source(led: u8, ways: u16) -> u16
+    ensures { λ r. ⌜ r ≡ pick (eqb led 0) ways 0 ⌝ }
 {
-    if waiting == 0 { ways } else { 0 }
+    if led == 0 { ways } else { 0 }
 }
 
-// The numbers of the sources added up: those that wait for no predecessor.
-pub fn whole(waiting: &[u8; 128], ways: &[u16; 128], n: usize) -> u16
+// The numbers of the sources added up: those that nobody leads to.
+pub fn whole(led: &[u8; 128], ways: &[u16; 128], n: usize) -> u16
     requires { ⌜ n ≤ 128 ⌝ }
     requires { ⌜ ((v : ℕ) → getD (now ways) v 0 ≤ 4097) ⌝ }
-    ensures { λ r. ⌜ r ≡ wholeBy (now (waiting .entry)) (now (ways .entry)) n ⌝ }
+    ensures { λ r. ⌜ r ≡ wholeBy (now (led .entry)) (now (ways .entry)) n ⌝ }
 {
     let mut total: u16 = 0;
     let mut v: usize = 0;
     while v < n {
-        total = cut(total + from_source(waiting[v], ways[v]));
+        total = cut(total + from_source(led[v], ways[v]));
         v += 1;
     }
     total

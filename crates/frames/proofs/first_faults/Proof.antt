@@ -5,18 +5,19 @@ use Prim.Native.Nat.{_-_, _/_, _≤_}
 use borrow.Author.Needs.{needs}
 use denote.Ref.{now}
 use lib.ListN.{length}
+use Rattle.ready.proofs.ByNumbers.{begins}
 use Rattle.frames.specs.Frames.{PassedBy}
 use Rattle.frames.proofs.Using.{used-none}
-use Rattle.frames.proofs.Framing.{kinds-below, edges-known, lists, framed-none}
+use Rattle.frames.proofs.Framing.{kinds-below, lists, framed-none}
 use Rattle.frames.proofs.Ruling.{passed-none}
 use Rattle.frames.proofs.first_faults.Statement.{statement}
 use Rattle.frames.proofs.first_faults.Tie as tie
 
 abbrev Inv-loop : tie.InvT-loop
-Inv-loop log n cores kind edge starts lasts m words waiting₀ used₀ p₀ k₀ waiting used p k = (k ≤ m) × PassedBy n log kind cores edge starts k used waiting p
+Inv-loop log n cores kind pred edge starts lasts m words waiting₀ used₀ p₀ k₀ waiting used p k = (k ≤ m) × PassedBy n log kind cores edge starts k used waiting p
 
 abbrev μ-loop : tie.MeasureT-loop
-μ-loop log n cores kind edge starts lasts m words waiting₀ used₀ p₀ k₀ waiting used p k = m - k
+μ-loop log n cores kind pred edge starts lasts m words waiting₀ used₀ p₀ k₀ waiting used p k = m - k
 
 of-kinds-requires : tie.Need-of-kinds-requires Inv-loop μ-loop
 of-kinds-requires c κs = kinds-below (c .before .pre .0 .1)
@@ -25,7 +26,10 @@ with-records-requires : tie.Need-with-records-requires Inv-loop μ-loop
 with-records-requires c κs = c .before .before .pre .1 .1 .size
 
 begun-requires : tie.Need-begun-requires Inv-loop μ-loop
-begun-requires c κs = edges-known (c .before .before .before .pre .0 .1)
+begun-requires c κs =
+    let p = c .before .before .before .pre .0 in
+    let L = p .1 in
+    begins (p .0) (L .accepted) (L .n-is) (L .edges-are) (L .starts-are) (p .2)
 
 outset-requires : tie.Need-outset-requires Inv-loop μ-loop
 outset-requires c κs = search needs

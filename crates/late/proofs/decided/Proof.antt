@@ -31,7 +31,7 @@ unfolding vol volume asModel
 shares c = c .volume .ensures .0
 
 new-of-requires : tie.Need-new-of-requires
-new-of-requires c κs = let v = c .before .before .before in (v .before .before .pre .0, (shares v, v .volume .ensures .1))
+new-of-requires c κs = let v = c .before .before .before in let p = v .before .before .pre in (p .0, (p .1 .0, (shares v, v .volume .ensures .1)))
 
 ticks-requires-2 : tie.Need-ticks-requires-2
 ticks-requires-2 c κs = search needs
@@ -43,7 +43,7 @@ returns c =
     let s = n .before .before .before .before .before .before in
     let p = s .pre in (
       refl,
-      told-at-once (given s) (p .0 .accepted) (now (s .args .times)) (p .1) (s .args .d) (n .new-of .result .0) (n .new-of .ensures) _ (omega (arith, c .if2 .taken, t .ticks2 .ensures)) refl refl,
+      told-at-once (given s) (p .0 .accepted) (now (s .args .times)) (p .1 .1) (s .args .d) (n .new-of .result .0) (n .new-of .ensures) _ (omega (arith, c .if2 .taken, t .ticks2 .ensures)) refl refl,
     )
 
 -- where the run is played, NEW-B-1 is above d
@@ -54,14 +54,14 @@ later c =
     let s = v .before .before in
     ⊎-elim
     (λ w. (w .1 .result .0, w .1 .ensures, omega (arith, w .2 .ensures, w .4 .left)))
-    (λ w. above (given s) (s .pre .0 .accepted) (now (s .args .times)) (s .pre .1) (s .args .d) (omega (arith, shares v, t .ticks .ensures, w .left)))
+    (λ w. above (given s) (s .pre .0 .accepted) (now (s .args .times)) (s .pre .1 .1) (s .args .d) (omega (arith, shares v, t .ticks .ensures, w .left)))
     (c .if1 .came)
 
 looked-up-requires : tie.Need-looked-up-requires
 looked-up-requires c κs =
     let s = c .before .before .before .before .before in
     let p = s .pre in
-    (given s, lent (given s) (p .0 .accepted) _ (p .0 .along .starts), p .1)
+    (given s, lent (given s) (p .0 .accepted) _ (p .0 .along .starts), p .1 .1, p .1 .0)
 
 returns-2 : tie.Need-returns-2
 returns-2 c =
@@ -69,9 +69,9 @@ returns-2 c =
     let s = j .before .before .before .before .before in
     let p = s .pre in
     let q = c .looked-up .ensures in
-    let x = q .1 (given s) (lent (given s) (p .0 .accepted) _ (p .0 .along .starts)) (p .1) in
+    let x = q .1 (given s) (lent (given s) (p .0 .accepted) _ (p .0 .along .starts)) (p .1 .1) in
     let b = later j in
-    (q .0, told-by-run (given s) (p .0 .accepted) (now (s .args .times)) (p .1) (s .args .d) (b .0) (b .1) (c .looked-up .result) (b .2) (x .0) (x .1))
+    (q .0, told-by-run (given s) (p .0 .accepted) (now (s .args .times)) (p .1 .1) (s .args .d) (b .0) (b .1) (c .looked-up .result) (b .2) (x .0) (x .1))
 
 pub decided-spec : {M : Type 1} → statement M
 decided-spec =

@@ -22,7 +22,7 @@ fresh-by : (c : tie.After-begun) (g : Graph) → let s = c .before .before in Gr
 fresh-by c g L F = let s = c .before .before in fresh g (L .edges .accepted) (now (s .args .times)) F (s .args .d) (c .begun .result) (c .begun .ensures g (L .edges))
 
 begun-requires : tie.Need-begun-requires
-begun-requires c κs = let s = c .before in ((s .pre .0, s .pre .1 .edges), s .pre .2 .as-many ∙ sym (s .pre .1 .edges .n-is))
+begun-requires c κs = let s = c .before in ((s .pre .0, s .pre .1 .edges, s .pre .3), s .pre .2 .as-many ∙ sym (s .pre .1 .edges .n-is))
 
 until-requires : tie.Need-until-requires
 until-requires c κs = let s = c .before .before in (s .pre .0, s .pre .1, fresh-by c (s .pre .0) (s .pre .1) (s .pre .2))

@@ -28,7 +28,7 @@ begun-requires : tie.Need-begun-requires
 begun-requires c κs =
     let s = c .before .before in
     let L = s .pre .1 in
-    ((s .pre .0, L .edges), s .pre .2 .as-many ∙ sym (L .edges .n-is))
+    ((s .pre .0, L .edges, s .pre .3), s .pre .2 .as-many ∙ sym (L .edges .n-is))
 
 play-requires : tie.Need-play-requires
 play-requires c κs = let s = c .before .before .before in (s .pre .0, s .pre .1, fresh c (s .pre .0) (s .pre .1) (s .pre .2))
@@ -78,7 +78,7 @@ ordered : (c : tie.After-sort) (g : Graph) → let s = c .before .before .before
 ordered c g L F = c .sort .ensures _ _ (gathered (c .before .before) g L F)
 
 mul-size : tie.Need-mul-size
-mul-size c = search needs
+mul-size c = omega (arith, few-keys (c .before .before))
 
 returns : tie.Need-returns
 returns c g L F =

@@ -24,8 +24,8 @@ fits c = faultless _ (c .before .before .before .lowest .result) (c .before .bef
 
 holds-cycle-requires : tie.Need-holds-cycle-requires
 holds-cycle-requires c κs =
-    let a = c .before .before .before .before .before .before .before .before .before in
-    (fits (c .before .before .before .before), (a .pre .1 .0, a .pre .1 .1))
+    let a = c .before .before .before .before .before .before .before .before .before .before in
+    (fits (c .before .before .before .before .before), (a .pre .1 .0, a .pre .1 .1, a .pre .1 .2))
 
 refused-whole-requires : tie.Need-refused-whole-requires
 refused-whole-requires c κs = search needs
@@ -33,13 +33,13 @@ refused-whole-requires c κs = search needs
 returns-2 : tie.Need-returns-2
 returns-2 c =
     let e = c .before .before .holds-cycle .ensures in
-    let r = c .refused-whole .ensures ∙ sym (cycle-refused _ (fits (c .before .before .before .before .before .before .before) .quiet) (sym (e .cycle) ∙ c .before .if2 .taken)) in
+    let r = c .refused-whole .ensures ∙ sym (cycle-refused _ (fits (c .before .before .before .before .before .before .before .before) .quiet) (sym (e .cycle) ∙ c .before .if2 .taken)) in
     (r, refused-edged (sym r ∙ c .refused-whole .ensures))
 
 returns-3 : tie.Need-returns-3
 returns-3 c =
     let e = c .before .holds-cycle .ensures in
-    let F = fits (c .before .before .before .before .before .before) in
+    let F = fits (c .before .before .before .before .before .before .before) in
     let a = acyclic-accepted _ (F .quiet) (sym (e .cycle) ∙ c .if2 .left) in (
       sym a,
       λ q. record {
@@ -48,6 +48,7 @@ returns-3 c =
         edges = F .counted .all-edges;
         listed = e .listed;
         order = e .order (c .if2 .left);
+        rows = e .rows;
       },
     )
 

@@ -32,7 +32,7 @@ add-up-requires : tie.Need-add-up-requires
 add-up-requires c κs = (c .before .before .before .before .pre .0 .few-vertices, in-form c)
 
 ruled-requires : tie.Need-ruled-requires
-ruled-requires c κs = let a = c .before .before .before .before in let s = c .before .before .before .before .before .before .before .before .before in (s .pre .0, (s .pre .1, (in-form (a .before), a .add-up .ensures .totals, a .add-up .ensures .lasts)))
+ruled-requires c κs = let a = c .before .before .before .before in let s = c .before .before .before .before .before .before .before .before .before in (s .pre .0, (s .pre .1 .0, (s .pre .1 .1, (in-form (a .before), a .add-up .ensures .totals, a .add-up .ensures .lasts))))
 
 returns : tie.Need-returns
 unfolding asModel

@@ -26,7 +26,7 @@ lent : (s : tie.Start) → LentOf (graph s) (s .args .h .n) (now (s .args .cores
 lent s = record { accepted = s .pre .0; n-is = refl; cores-are = refl; kind-is = refl; edges-are = refl; starts-are = s .pre .1 .0 }
 
 few : (s : tie.Start) → records (now (s .args .log)) ≤ 8192
-few s = few-records (now (s .args .log)) (s .pre .1 .1 .0 .right-length)
+few s = few-records (now (s .args .log)) (s .pre .1 .1 .1 .0 .right-length)
 
 -- what the pass found
 found : (f : tie.After-first-faults) → let s = f .before .before in FaultsBy (asModel (graph s)) (now (s .args .log)) (records (now (s .args .log))) (f .first-faults .result)
@@ -34,7 +34,7 @@ found f = let s = f .before .before in f .first-faults .ensures (graph s) (lent 
 
 -- row after row that does not hold
 off-19 : (e : tie.Else1) → let s = e .before .before .before .before in Off (asModel (graph s)) (now (s .args .log)) (s .args .room) 4
-off-19 e = let f = e .before .before in let s = f .before .before in next-19 (graph s) (now (s .args .log)) (s .args .room) _ (found f .early) (s .pre .1 .1 .0) (e .if1 .left)
+off-19 e = let f = e .before .before in let s = f .before .before in next-19 (graph s) (now (s .args .log)) (s .args .room) _ (found f .early) (s .pre .1 .1 .1 .0) (e .if1 .left)
 
 off-20 : (e : tie.Else2) → let s = e .before .before .before .before .before .before in Off (asModel (graph s)) (now (s .args .log)) (s .args .room) 5
 off-20 e = let d = e .before .before in let f = d .before .before in let s = f .before .before in next-20 (graph s) (now (s .args .log)) (s .args .room) _ (found f .crowded) (off-19 d) (e .if2 .left)
@@ -43,14 +43,14 @@ off-21 : (e : tie.Else3) → let s = e .before .before .before .before .before .
 off-21 e =
     let a = e .before .before in
     let s = a .before .before .before .before .before .before .before in
-    next-21 (graph s) (now (s .args .log)) (s .args .room) (now (s .args .totals)) (s .pre .1 .1 .1) _ (a .first-above .ensures) (off-20 (a .before)) (e .if3 .left)
+    next-21 (graph s) (now (s .args .log)) (s .args .room) (now (s .args .totals)) (s .pre .1 .1 .1 .1) _ (a .first-above .ensures) (off-20 (a .before)) (e .if3 .left)
 
 -- 22 was looked for up to the last instant
 idle : (e : tie.Else3) → let f = e .before .before .before .before .before .before .before in let s = f .before .before in f .first-faults .result .idle ≡ first (rule22 (asModel (graph s)) (now (s .args .log))) (lastInstant (now (s .args .log)))
 idle e =
     let f = e .before .before .before .before .before .before .before in
     let s = f .before .before in
-    found f .idle ∙ ap (first (rule22 (asModel (graph s)) (now (s .args .log)))) (sym (clock-last (s .pre .1 .1 .0) (s .pre .0 .few-vertices)))
+    found f .idle ∙ ap (first (rule22 (asModel (graph s)) (now (s .args .log)))) (sym (clock-last (s .pre .1 .1 .1 .0) (s .pre .0 .few-vertices)))
 
 off-22 : (e : tie.Else4) → let s = e .before .before .before .before .before .before .before .before .before .before .before .before in Off (asModel (graph s)) (now (s .args .log)) (s .args .room) 7
 off-22 e =
@@ -59,7 +59,7 @@ off-22 e =
     next-22 (graph s) (now (s .args .log)) (s .args .room) _ (idle (a .before)) (off-21 (a .before)) (omega (arith, e .if4 .left, a .last .ensures .0))
 
 first-faults-requires : tie.Need-first-faults-requires
-first-faults-requires c κs = let s = c .before in ((graph s, lent s), (s .pre .1 .1 .0, s .pre .1 .1 .2))
+first-faults-requires c κs = let s = c .before in ((graph s, lent s, s .pre .1 .1 .0), (s .pre .1 .1 .1 .0, s .pre .1 .1 .1 .2))
 
 cast-refused : tie.Need-cast-refused
 cast-refused c = let t = c .before in let s = t .before .before .before .before in omega (arith, t .if1 .taken, few s)
@@ -72,7 +72,7 @@ returns c =
     let t = c .before .before in
     let f = t .before .before in
     let s = f .before .before in
-    c .refused .ensures ∙ sym (given-19 (graph s) (now (s .args .log)) (s .args .room) _ (found f .early) (s .pre .1 .1 .0) (t .if1 .taken))
+    c .refused .ensures ∙ sym (given-19 (graph s) (now (s .args .log)) (s .args .room) _ (found f .early) (s .pre .1 .1 .1 .0) (t .if1 .taken))
 
 cast-refused-2 : tie.Need-cast-refused-2
 cast-refused-2 c = let t = c .before in let s = t .before .before .before .before .before .before in omega (arith, t .if2 .taken, few s)
@@ -103,7 +103,7 @@ returns-3 c =
     let a = t .before .before in
     let e = a .before in
     let s = e .before .before .before .before .before .before in
-    c .refused3 .ensures ∙ sym (given-21 (graph s) (now (s .args .log)) (s .args .room) (now (s .args .totals)) (s .pre .1 .1 .1) _ (a .first-above .ensures) (off-20 e) (t .if3 .taken))
+    c .refused3 .ensures ∙ sym (given-21 (graph s) (now (s .args .log)) (s .args .room) (now (s .args .totals)) (s .pre .1 .1 .1 .1) _ (a .first-above .ensures) (off-20 e) (t .if3 .taken))
 
 last-requires : tie.Need-last-requires
 last-requires c κs = search needs

@@ -35,7 +35,7 @@ begun-requires : tie.Need-begun-requires
 begun-requires c κs =
     let s = c .before .before .before in
     let L = s .pre .1 in
-    ((s .pre .0, L .edges), s .pre .2 .as-many ∙ sym (L .edges .n-is))
+    ((s .pre .0, L .edges, s .pre .3), s .pre .2 .as-many ∙ sym (L .edges .n-is))
 
 play-requires : tie.Need-play-requires
 play-requires c κs = let s = c .before .before .before .before in (s .pre .0, s .pre .1, fresh c (s .pre .0) (s .pre .1) (s .pre .2))

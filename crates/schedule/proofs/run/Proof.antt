@@ -1,13 +1,13 @@
 use mathlib.Core.Path.{refl}
 use denote.Ref.{now}
 use borrow.Author.Needs.{needs}
-use Rattle.reader.proofs.Laying.{usable, handed-over, handed-back}
+use Rattle.reader.proofs.Laying.{rows-given, usable, handed-over, handed-back}
 use Rattle.schedule.proofs.Answers.{play-accepted, play-refused}
 use Rattle.schedule.proofs.run.Statement.{statement}
 use Rattle.schedule.proofs.run.Tie as tie
 
-take-requires : tie.Need-take-requires
-take-requires c κs = search needs
+take-rows-requires : tie.Need-take-rows-requires
+take-rows-requires c κs = search needs
 
 enum-known-answer : tie.Need-enum-known-answer
 enum-known-answer c = search needs
@@ -17,33 +17,33 @@ enum-told c = search needs
 
 play-on-requires : tie.Need-play-on-requires
 play-on-requires c κs =
-    let t = c .before .before .before .before .before .before in
+    let t = c .before .before .before .before .before .before .before in
     let r = t .before .before in
-    let g = usable _ _ _ _ _ _ _ _ (r .take .ensures) (λ i. r .before .before .before .before .before .before .before .before .before .shared-slice-known .given i .fits) (t .enum-told .given .1) in
-    (g .accepted, g .along .starts)
+    let g = usable _ _ _ _ _ _ _ _ (r .take-rows .ensures .0) (λ i. r .before .before .before .before .before .before .before .before .before .before .shared-slice-known .given i .fits) (t .enum-told .given .1) in
+    (g .accepted, (g .along .starts, rows-given _ _ _ _ _ _ _ _ (r .take-rows .ensures .0) (r .take-rows .ensures .1) (t .enum-told .given .1)))
 
 returns : tie.Need-returns
 returns c =
     let r = c .before .before .before in
-    let s = r .before .before .before .before .before .before .before .before .before .before in
-    play-refused (now (s .args .file)) _ (handed-back _ _ _ _ _ _ _ _ (r .take .ensures) (c .before .answer .given .1)) _ refl (now (s .args .times)) (now (s .args .finishes))
+    let s = r .before .before .before .before .before .before .before .before .before .before .before in
+    play-refused (now (s .args .file)) _ (handed-back _ _ _ _ _ _ _ _ (r .take-rows .ensures .0) (c .before .answer .given .1)) _ refl (now (s .args .times)) (now (s .args .finishes))
 
 same-length : tie.Need-same-length
 same-length c = search needs
 
 returns-2 : tie.Need-returns-2
 returns-2 c =
-    let t = c .before .before .before .before .before .before .before .before .before in
+    let t = c .before .before .before .before .before .before .before .before .before .before in
     let r = t .before .before in
-    let s = r .before .before .before .before .before .before .before .before .before .before in
+    let s = r .before .before .before .before .before .before .before .before .before .before .before in
     let q = c .before .before .play-on in
-    play-accepted (now (s .args .file)) _ (handed-over _ _ _ _ _ _ _ _ (r .take .ensures) (t .enum-told .given .1)) refl (now (s .args .times)) (now (s .args .finishes)) _ (q .result) (q .ensures .0) (q .ensures .1)
+    play-accepted (now (s .args .file)) _ (handed-over _ _ _ _ _ _ _ _ (r .take-rows .ensures .0) (t .enum-told .given .1)) refl (now (s .args .times)) (now (s .args .finishes)) _ (q .result) (q .ensures .0) (q .ensures .1)
 
 pub run-spec : {M : Type 1} → statement M
 run-spec =
     tie.close
     (tie.spec
-    take-requires
+    take-rows-requires
     enum-known-answer
     enum-told
     play-on-requires

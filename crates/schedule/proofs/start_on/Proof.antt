@@ -25,7 +25,7 @@ begun-requires c κs =
     let s = j .before .before in
     let g = s .pre .0 in
     let E = s .pre .1 in
-    ((g, E), times-fit g (now (s .args .times)) (sym (j .judge .ensures g (E .n-is) (s .pre .2)) ∙ c .enum-told .given .1) .as-many ∙ sym (E .n-is))
+    ((g, E, s .pre .3), times-fit g (now (s .args .times)) (sym (j .judge .ensures g (E .n-is) (s .pre .2)) ∙ c .enum-told .given .1) .as-many ∙ sym (E .n-is))
 
 returns : tie.Need-returns
 returns c g E w =

@@ -14,12 +14,12 @@ abbrev lent : tie.Start → Graph
 lent s = graphIn (s .args .h) (now (s .args .cores)) (now (s .args .kind)) (now (s .args .wcet)) (now (s .args .edge))
 
 test : (c : tie.After-of-kinds) → let s = c .before in
-    TestOf (lent s) (s .args .h .kinds) (s .args .h .n) (s .args .h .edges) (now (s .args .cores)) (c .of-kinds .result) (now (s .args .wcet)) (now (s .args .edge))
-test c = record { accepted = c .before .pre .0; kinds-are = refl; n-is = refl; edges-many = refl; cores-are = refl; words-are = c .of-kinds .ensures; wcet-is = refl; edges-are = refl }
+    TestOf (lent s) (s .args .h .kinds) (s .args .h .n) (now (s .args .cores)) (c .of-kinds .result) (now (s .args .wcet)) (now (s .args .pred))
+test c = record { accepted = c .before .pre .0; kinds-are = refl; n-is = refl; cores-are = refl; words-are = c .of-kinds .ensures; wcet-is = refl; rows-are = c .before .pre .1 .1 }
 
 lists : (c : tie.After-of-kinds) → let s = c .before in
     ListsOf (lent s) (s .args .h .kinds) (now (s .args .cores)) (c .of-kinds .result) (now (s .args .edge)) (now (s .args .starts))
-lists c = record { accepted = c .before .pre .0; kinds-are = refl; cores-are = refl; words-are = c .of-kinds .ensures; edges-are = refl; starts-are = c .before .pre .1 }
+lists c = record { accepted = c .before .pre .0; kinds-are = refl; cores-are = refl; words-are = c .of-kinds .ensures; edges-are = refl; starts-are = c .before .pre .1 .0 }
 
 suited : (c : tie.After-suits) → let s = c .before .before .before in c .suits .result ≡ suits (lent s) (s .args .run)
 suited c = let o = c .before .before in c .suits .ensures (lent (o .before)) (test o)

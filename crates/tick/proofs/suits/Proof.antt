@@ -9,7 +9,6 @@ use Rattle.vset.specs.Members.{isIn}
 use Rattle.choice.specs.Choice.{fairBy}
 use Rattle.choice.proofs.ByKind.{fair-by-words}
 use Rattle.ready.specs.Ready.{someLeft, isBehind}
-use Rattle.ready.proofs.ByNumbers.{ends-known, few-enter}
 use Rattle.tick.specs.Run.{leftOf}
 use Rattle.tick.specs.Suits.{numbersRight}
 use Rattle.tick.proofs.Suiting.{numbers-tested, standing, all-tested}
@@ -50,12 +49,7 @@ fair-requires c κs =
     rw (s .pre .1 .kinds-are) (s .pre .1 .accepted .few-kinds)
 
 agree-requires : tie.Need-agree-requires
-agree-requires c κs =
-    let s = c .before .before .before .before .before .before .before .before .before .before .before .before .before .before in
-    let g = s .pre .0 in
-    let L = s .pre .1 in
-    let A = L .accepted in
-    rw (L .edges-are, L .edges-many) (A .few-edges, (ends-known g A, few-enter g A))
+agree-requires c κs = search needs
 
 returns : tie.Need-returns
 unfolding leftOf
@@ -70,7 +64,7 @@ returns c g L =
     let A = L .accepted in
     let r = s .args .run in
     let able = isIn (a .minus .result) in
-    let right : c .agree .result ≡ numbersRight g r = rw (L .edges-are, L .edges-many) at (c .agree .ensures) ∙ numbers-tested g r A (isIn (b .busy .result)) (b .busy .ensures .are) (h .held .result) (h .held .ensures) (long-waiting s) in
+    let right : c .agree .result ≡ numbersRight g r = c .agree .ensures ∙ numbers-tested g r A (isIn (b .busy .result)) (b .busy .ensures .are) (h .held .result) (h .held .ensures) (long-waiting s) _ (L .rows-are) in
     let is-able : numbersRight g r ≡ true → (v : ℕ) → able v ≡ someLeft (r .left) v && not (isBehind (asModel g) (someLeft (r .left)) v) = λ ok v.
     a .minus .ensures .are v
     ∙ ap₂ (λ (x y : Bool). x && not y) (b .busy .ensures .are v) (standing g r A (isIn (b .busy .result)) (b .busy .ensures .are) (h .held .result) (h .held .ensures) (long-waiting s) ok v) in

@@ -9,11 +9,11 @@ use lib.ListN.{getD, length, List·getD-eq-default}
 use Rattle.model.specs.Places.{padded}
 use Rattle.model.proofs.Bools.{le-or-lt}
 use Rattle.model.proofs.Tables.{padded-at, padded-past}
-use Rattle.graph.specs.Model.{asModel, from}
+use Rattle.graph.specs.Model.{asModel}
 use Rattle.vset.specs.Members.{isIn}
 use Rattle.vset.proofs.Same.{set-of}
 use Rattle.ready.specs.Ready.{someLeft}
-use Rattle.ready.proofs.ByNumbers.{edges-counted, layout}
+use Rattle.ready.proofs.ByNumbers.{edges-counted, begins}
 use Rattle.tick.specs.Run.{awaited, recordOf}
 use Rattle.tick.proofs.Awaited.{settled-awaited}
 use Rattle.times.specs.Times.{timesOf}
@@ -37,13 +37,10 @@ busy-requires : tie.Need-busy-requires
 busy-requires c κs = search needs
 
 begun-requires : tie.Need-begun-requires
-unfolding from
 begun-requires c κs =
-    let s = c .before .before .before .before in
-    let g = s .pre .0 .0 in
-    let E = s .pre .0 .1 in
-    let A = E .accepted in
-    rw (E .edges-are, E .starts-are, E .n-is) (layout g A, (A .few-vertices, λ i h. A .from-known i (rw (edges-counted g A) at h)))
+    let p = c .before .before .before .before .pre .0 in
+    let E = p .1 in
+    begins (p .0) (E .accepted) (E .n-is) (E .edges-are) (E .starts-are) (p .2)
 
 returns : tie.Need-returns
 unfolding recordOf asModel someLeft

@@ -6,24 +6,25 @@ use borrow.Author.Needs.{needs}
 use Rattle.model.specs.PathCount.{pathCount}
 use Rattle.graph.specs.declared.Graph.{Graph}
 use Rattle.graph.specs.Model.{asModel}
-use Rattle.visit.specs.Cells.{Ground, Laid, Sources, Kept, Reached, Ended}
+use Rattle.paths.specs.Ahead.{Sources}
+use Rattle.visit.specs.Cells.{Ground, Laid, Kept, Reached, Ended}
 use Rattle.visit.proofs.Opening.{numbers-few}
 use Rattle.visit.proofs.Walking.{cell-known, kept-few, Visited, visited-none, visited-kept, visited-more, visited-all}
 use Rattle.visit.proofs.largest.Statement.{statement}
 use Rattle.visit.proofs.largest.Tie as tie
 
 abbrev Inv-loop : tie.InvT-loop
-Inv-loop edge start ways waiting rows kind wcet share n count cells₀ best₀ depth₀ k₀ cells best depth k =
+Inv-loop edge start ways led rows kind wcet share n count cells₀ best₀ depth₀ k₀ cells best depth k =
     (k ≤ count)
-    × ((g : Graph) → Ground g ways rows kind wcet share → Laid g edge start → Sources g waiting → n ≡ g .n → count ≡ pathCount (asModel g) → Visited (asModel g) cells best depth k)
+    × ((g : Graph) → Ground g ways rows kind wcet share → Laid g edge start → Sources g led → n ≡ g .n → count ≡ pathCount (asModel g) → Visited (asModel g) cells best depth k)
 
 abbrev μ-loop : tie.MeasureT-loop
-μ-loop edge start ways waiting rows kind wcet share n count cells₀ best₀ depth₀ k₀ cells best depth k = count - k
+μ-loop edge start ways led rows kind wcet share n count cells₀ best₀ depth₀ k₀ cells best depth k = count - k
 
 -- the tables are those of the graph g
 abbrev Given : tie.Start Inv-loop μ-loop → Graph → Type 0
 Given s g =
-    Ground g (s .args .ways .now) (s .args .rows .now) (s .args .kind .now) (s .args .wcet .now) (s .args .share .now) × Laid g (s .args .edge .now) (s .args .start .now) × Sources g (s .args .waiting .now)
+    Ground g (s .args .ways .now) (s .args .rows .now) (s .args .kind .now) (s .args .wcet .now) (s .args .share .now) × Laid g (s .args .edge .now) (s .args .start .now) × Sources g (s .args .led .now)
     × (s .args .n ≡ g .n) × (s .args .count ≡ pathCount (asModel g))
 
 its : (s : tie.Start Inv-loop μ-loop) → Given s (s .pre .0)

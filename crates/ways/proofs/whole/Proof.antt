@@ -12,10 +12,10 @@ use Rattle.ways.proofs.whole.Statement.{statement}
 use Rattle.ways.proofs.whole.Tie as tie
 
 abbrev Inv-loop : tie.InvT-loop
-Inv-loop waiting ways n total₀ v₀ total v = (v ≤ n) × (total ≡ wholeBy waiting ways v)
+Inv-loop led ways n total₀ v₀ total v = (v ≤ n) × (total ≡ wholeBy led ways v)
 
 abbrev μ-loop : tie.MeasureT-loop
-μ-loop waiting ways n total₀ v₀ total v = n - v
+μ-loop led ways n total₀ v₀ total v = n - v
 
 loop-holds : tie.Need-loop-holds Inv-loop μ-loop
 unfolding sum
@@ -37,7 +37,7 @@ add-cut : tie.Need-add-cut Inv-loop μ-loop
 add-cut c =
     let l = c .before .before .before .before .loop in
     let s = c .before .before .before .before .before in
-    omega (arith, l .inv .1, c .from-source .ensures, s .pre .1 (l .v), pick-small (eqb (getD (s .args .waiting .now) (l .v) 0) 0) (getD (s .args .ways .now) (l .v) 0))
+    omega (arith, l .inv .1, c .from-source .ensures, s .pre .1 (l .v), pick-small (eqb (getD (s .args .led .now) (l .v) 0) 0) (getD (s .args .ways .now) (l .v) 0))
 
 cut-requires : tie.Need-cut-requires Inv-loop μ-loop
 cut-requires c κs = search needs
@@ -54,7 +54,7 @@ loop-again c =
     let l = w .before .before .before .before .loop in
     let a = w .before .before .before .before .before .args in (
       omega arith,
-      cut-more (fromSource (a .waiting .now) (a .ways .now)) (l .v) (l .total) (c .cut .result) (l .inv .1)
+      cut-more (fromSource (a .led .now) (a .ways .now)) (l .v) (l .total) (c .cut .result) (l .inv .1)
           (c .cut .ensures ∙ ap (λ (x : ℕ). min 4097 (l .total + x)) (w .from-source .ensures)),
     )
 

@@ -14,7 +14,7 @@ longest-requires c κs = search needs
 
 -- the sums of the graph that there is
 summed : (c : tie.After-longest) → Summed (asModel (c .before .pre .0)) (weigh (c .before .args .weight .now)) (c .longest .result)
-summed c = c .longest .ensures (c .before .pre .0) (c .before .pre .1)
+summed c = c .longest .ensures (c .before .pre .0) (c .before .pre .1) (c .before .pre .2)
 
 few : (c : tie.After-longest) → c .longest .result .head < 128
 unfolding asModel
@@ -46,8 +46,8 @@ add-result c = omega (arith, fits (c .before .before))
 
 returns : tie.Need-returns
 unfolding asModel
-returns c g M =
-    let s = c .before .before .longest .ensures g M in
+returns c g M S =
+    let s = c .before .before .longest .ensures g M S in
     head-greatest (M .rows .accepted .well-formed) _ _ (c .before .before .longest .result .head) (s .longest .ahead) (s .head)
 
 pub largest-spec : {M : Type 1} → statement M

@@ -10,23 +10,26 @@ add-m : tie.Need-add-m
 add-m c = search needs
 
 meets-requires : tie.Need-meets-requires
-meets-requires c κs = search needs
+meets-requires c κs =
+    let p = c .pre in
+    let b = p .1 .1 .1 .0 in
+    (p .0, (p .1 .0, (p .1 .1 .0, omega (arith, b .least, p .1 .1 .1 .1), omega (arith, b .most, p .1 .1 .1 .1))))
 
 returns : tie.Need-returns
 returns c =
     let a = c .before in
     let p = a .before .pre in
-    (lower-half (p .1 .1 .0) _ (omega arith) (omega arith) (a .meets .ensures .0 (c .if1 .taken)), omega arith)
+    (lower-half (p .1 .1 .1 .0) _ (omega arith) (omega arith) (a .meets .ensures .0 (c .if1 .taken)), omega arith)
 
-add-t14 : tie.Need-add-t14
-add-t14 c = search needs
+add-t15 : tie.Need-add-t15
+add-t15 c = search needs
 
 returns-2 : tie.Need-returns-2
 returns-2 c =
     let a = c .before in
     let p = a .before .pre in
     let A = p .0 .accepted in
-    (upper-half (p .1 .1 .0) _ (omega arith) (omega arith) (A .well-formed) (A .acyclic) (λ M. clash (a .meets .ensures .1 M) (c .if1 .left)), omega arith)
+    (upper-half (p .1 .1 .1 .0) _ (omega arith) (omega arith) (A .well-formed) (A .acyclic) (λ M. clash (a .meets .ensures .1 M) (c .if1 .left)), omega arith)
 
 pub halved-spec : {M : Type 1} → statement M
-halved-spec = tie.close (tie.spec add-m meets-requires returns add-t14 returns-2)
+halved-spec = tie.close (tie.spec add-m meets-requires returns add-t15 returns-2)

@@ -18,7 +18,7 @@ array-write-changed : tie.Need-array-write-changed
 array-write-changed c = search needs
 
 volume-requires : tie.Need-volume-requires
-volume-requires c κs = let p = c .before .before .pre in small-stages (stored-usable (p .0) _ _ (p .1 .0) (p .1 .1) (p .1 .2) .accepted)
+volume-requires c κs = let p = c .before .before .pre in small-stages (stored-usable (p .0) _ _ (p .1 .1 .0) (p .1 .1 .1) (p .1 .1 .2) .accepted)
 
 -- what the code adds up is the volume
 shares : (c : tie.After-volume)
@@ -29,7 +29,7 @@ shares c = c .volume .ensures .0
 new-of-requires : tie.Need-new-of-requires
 new-of-requires c κs =
     let v = c .before in
-    let p = v .before .before .before .pre in (stored-usable (p .0) _ _ (p .1 .0) (p .1 .1) (p .1 .2), (shares v, v .volume .ensures .1))
+    let p = v .before .before .before .pre in (stored-usable (p .0) _ _ (p .1 .1 .0) (p .1 .1 .1) (p .1 .1 .2), (p .1 .0, (shares v, v .volume .ensures .1)))
 
 ticks-requires : tie.Need-ticks-requires
 ticks-requires c κs = search needs
@@ -40,7 +40,7 @@ returns c =
     let n = t .before in
     let s = n .before .before .before .before .before in
     let p = s .pre in
-    let x = rw (stored-model (p .0) (s .args .s) (s .args .m) (p .1 .0)) at (n .new-of .ensures) in
+    let x = rw (stored-model (p .0) (s .args .s) (s .args .m) (p .1 .1 .0)) at (n .new-of .ensures) in
     let whole = t .ticks .result .0 in
     let e = t .ticks .ensures in
     (λ b. meets-within x .1 (omega (arith, leb-true whole (s .args .limit) b, e)), λ M. le-leb whole (s .args .limit) (omega (arith, e, meets-within x .0 M)))

@@ -10,16 +10,16 @@ use Rattle.enough.proofs.accepted.smallest.Statement.{statement}
 use Rattle.enough.proofs.accepted.smallest.Tie as tie
 
 abbrev Inv-loop : tie.InvT-loop
-Inv-loop h s limit cores kind wcet edge start order span₀ span = Between (asModel (graphIn h cores kind wcet edge)) s limit (span .low) (span .high)
+Inv-loop h s limit cores kind wcet edge start order pred span₀ span = Between (asModel (graphIn h cores kind wcet edge)) s limit (span .low) (span .high)
 
 abbrev μ-loop : tie.MeasureT-loop
-μ-loop h s limit cores kind wcet edge start order span₀ span = span .high - span .low
+μ-loop h s limit cores kind wcet edge start order pred span₀ span = span .high - span .low
 
 loop-holds : tie.Need-loop-holds Inv-loop μ-loop
 loop-holds c = all-sixteen
 
 halved-requires : tie.Need-halved-requires Inv-loop μ-loop
-halved-requires c κs = let l = c .before .before in let p = l .before .pre in (p .0, (p .1, (l .loop .inv, c .if1 .taken)))
+halved-requires c κs = let l = c .before .before in let p = l .before .pre in (p .0, (p .1 .0, (p .1 .1, (l .loop .inv, c .if1 .taken))))
 
 loop-less : tie.Need-loop-less Inv-loop μ-loop
 loop-less c = omega (arith, c .halved .ensures .1)

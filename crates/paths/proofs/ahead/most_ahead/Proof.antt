@@ -1,21 +1,20 @@
--- `most` is the largest sum by the edges before i, and whoever they go to is marked.
+-- `most` is the largest sum by the edges before i.
 use mathlib.Core.Path.{_≡_}
 use Prim.Native.Nat.{_+_, _-_, _≤_, _<_}
 use native.Mathlib.Omega.{arith}
 use borrow.Author.Needs.{needs}
 use lib.ListN.{getD}
 use Rattle.paths.specs.Ahead.{weigh}
-use Rattle.paths.specs.Along.{Follows, Led}
-use Rattle.paths.proofs.Along.{follows-none, follows-more, led-none, led-more}
+use Rattle.paths.specs.Along.{Follows}
+use Rattle.paths.proofs.Along.{follows-none, follows-more}
 use Rattle.paths.proofs.ahead.most_ahead.Statement.{statement}
 use Rattle.paths.proofs.ahead.most_ahead.Tie as tie
 
 abbrev Inv-loop : tie.InvT-loop
-Inv-loop edge start weight sums u led₀ end most₀ i₀ led most i =
-    (getD start u 0 ≤ i) × ((i ≤ getD start (u + 1) 0) × (Follows edge weight sums (getD start u 0) i most × Led edge (getD start u 0) i led₀ led))
+Inv-loop edge start weight sums u end most₀ i₀ most i = (getD start u 0 ≤ i) × ((i ≤ getD start (u + 1) 0) × Follows edge weight sums (getD start u 0) i most)
 
 abbrev μ-loop : tie.MeasureT-loop
-μ-loop edge start weight sums u led₀ end most₀ i₀ led most i = end - i
+μ-loop edge start weight sums u end most₀ i₀ most i = end - i
 
 add-end : tie.Need-add-end Inv-loop μ-loop
 add-end c = search needs
@@ -39,7 +38,7 @@ cast-i : tie.Need-cast-i Inv-loop μ-loop
 cast-i c = search needs
 
 loop-holds : tie.Need-loop-holds Inv-loop μ-loop
-loop-holds c = (search needs, (search needs, (follows-none _ _ _ _, led-none _ _ _ (c .before .before .pre .1))))
+loop-holds c = (search needs, (search needs, follows-none _ _ _ _))
 
 mul-to : tie.Need-mul-to Inv-loop μ-loop
 mul-to c = search needs
@@ -54,13 +53,13 @@ to-requires c κs = search needs
 vertex : (c : tie.After-to Inv-loop μ-loop) → c .to .result < 128
 vertex c =
     let l = c .before .before .before .loop in
-    omega (arith, c .to .ensures, c .before .before .before .before .before .before .pre .0 .ends (l .i) (l .inv .0) (omega arith))
+    omega (arith, c .to .ensures, c .before .before .before .before .before .before .pre .ends (l .i) (l .inv .0) (omega arith))
 
 fits : (c : tie.After-to Inv-loop μ-loop)
     → weigh (c .before .before .before .before .before .before .args .weight .now) (c .to .result) + getD (c .before .before .before .before .before .before .args .sums .now) (c .to .result) 0 < 18446744073709551616
 fits c =
     let l = c .before .before .before .loop in
-    rw (c .to .ensures) (c .before .before .before .before .before .before .pre .0 .fits (l .i) (l .inv .0) (omega arith))
+    rw (c .to .ensures) (c .before .before .before .before .before .before .pre .fits (l .i) (l .inv .0) (omega arith))
 
 mul-larger : tie.Need-mul-larger Inv-loop μ-loop
 mul-larger c = omega (arith, vertex c)
@@ -80,9 +79,6 @@ add-larger c = omega (arith, fits (c .before .before))
 larger-requires : tie.Need-larger-requires Inv-loop μ-loop
 larger-requires c κs = search needs
 
-element-write-led : tie.Need-element-write-led Inv-loop μ-loop
-element-write-led c = vertex (c .before .before .before)
-
 add-i : tie.Need-add-i Inv-loop μ-loop
 add-i c = search needs
 
@@ -93,16 +89,7 @@ loop-again : tie.Need-loop-again Inv-loop μ-loop
 loop-again c =
     let t = c .before .before .before in
     let l = t .before .before .before .loop in
-    let S = l .inv .1 .1 in (
-      search needs,
-      (
-        omega arith,
-        (
-          follows-more _ _ _ _ (l .i) (t .to .result) (l .most) _ (l .inv .0) (t .to .ensures) (c .larger .ensures) (S .0),
-          led-more _ _ _ (l .i) (t .to .result) (l .led) (l .inv .0) (vertex t) (t .to .ensures) (S .1),
-        ),
-      ),
-    )
+    (search needs, (omega arith, follows-more _ _ _ _ (l .i) (t .to .result) (l .most) _ (l .inv .0) (t .to .ensures) (c .larger .ensures) (l .inv .1 .1)))
 
 returns : tie.Need-returns Inv-loop μ-loop
 returns c =
@@ -134,7 +121,6 @@ most-ahead-spec =
     element-copy-out-larger-2
     add-larger
     larger-requires
-    element-write-led
     add-i
     loop-less
     loop-again

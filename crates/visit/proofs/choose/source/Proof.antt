@@ -14,17 +14,17 @@ use Rattle.visit.proofs.choose.source.Statement.{statement}
 use Rattle.visit.proofs.choose.source.Tie as tie
 
 abbrev Inv-loop : tie.InvT-loop
-Inv-loop waiting ways n k base₀ v₀ base v = (v ≤ n) × (base ≡ sum (fromSource waiting ways) v) × (base ≤ k)
+Inv-loop led ways n k base₀ v₀ base v = (v ≤ n) × (base ≡ sum (fromSource led ways) v) × (base ≤ k)
 
 abbrev μ-loop : tie.MeasureT-loop
-μ-loop waiting ways n k base₀ v₀ base v = n - v
+μ-loop led ways n k base₀ v₀ base v = n - v
 
 -- what a source adds is small, and what is not one adds nothing
 few : (c : tie.After-from-source Inv-loop μ-loop) → c .from-source .result ≤ 4097
 few c =
     let l = c .before .before .before .before .loop in
     let s = c .before .before .before .before .before in
-    omega (arith, c .from-source .ensures, s .pre .1 (l .v), pick-small (eqb (getD (s .args .waiting .now) (l .v) 0) 0) (getD (s .args .ways .now) (l .v) 0))
+    omega (arith, c .from-source .ensures, s .pre .1 (l .v), pick-small (eqb (getD (s .args .led .now) (l .v) 0) 0) (getD (s .args .ways .now) (l .v) 0))
 
 picked : (b : Bool) (x base k : ℕ) → base ≤ k → k < base + pick b x 0 → b ≡ true
 picked true x base k l h = refl
@@ -59,7 +59,7 @@ returns c =
     let f = c .before in
     let l = f .before .before .before .before .loop in
     let a = f .before .before .before .before .before .args in
-    let b = eqb (getD (a .waiting .now) (l .v) 0) 0 in
+    let b = eqb (getD (a .led .now) (l .v) 0) 0 in
     let x = getD (a .ways .now) (l .v) 0 in
     let h : a .k < l .base + pick b x 0 = rw (f .from-source .ensures) at (c .if1 .taken) in
     record {
@@ -82,7 +82,7 @@ loop-again c =
     let l = f .before .before .before .before .loop in
     let a = f .before .before .before .before .before .args in (
       omega (arith, f .before .before .before .loop-test .taken),
-      omega (arith, f .from-source .ensures, l .inv .1, sum-next (fromSource (a .waiting .now) (a .ways .now)) (l .v)),
+      omega (arith, f .from-source .ensures, l .inv .1, sum-next (fromSource (a .led .now) (a .ways .now)) (l .v)),
       c .if1 .left,
     )
 
