@@ -32,7 +32,7 @@ use Rattle.mends.proofs.Answering.{refused-1, refused-2, refused-3, refused-15,
 use Rattle.mends.proofs.Ends.{kept-tells}
 use Rattle.mends.proofs.Unchanged as keeps
 use Rattle.mends.proofs.Again.{origin}
-use Rattle.mends.proofs.Listing.{listed-is}
+use Rattle.mends.proofs.Listing.{listed-is, list-short}
 use Rattle.mends.proofs.Ordered as ordered
 use Rattle.mends.proofs.Redone.{redone}
 use Rattle.mends.proofs.Carried.{mended-accepted}
@@ -146,6 +146,10 @@ module _ {s : List ℕ} (ok : Mendable s) where
   -- THEOREM. Nothing unlisted happened: from the input and the list alone the mended file is made again.
   pub made-again : redo s (listOf s) ≡ mendedOf s
   made-again = redone s ok
+
+-- THEOREM. 16 bytes for each record of the file are always enough for the list.
+pub list-fits : (s : List ℕ) → length (listOf s) ≤ 16 * records s
+list-fits = list-short
 
 -- THEOREM. "An edge from a vertex to itself is always D, never X."
 pub never-x : (s : List ℕ) (k : ℕ) → loop s k ≡ true → double s k ≡ false

@@ -52,6 +52,7 @@ use Rattle.times.specs.Times.{timesOf, judgeTimes}
 use Rattle.times.proofs.Fits.{times-fit}
 use Rattle.leaps.specs.Finishes.{finishOf}
 use Rattle.schedule.specs.declared.Played.the-variants.{Finish as Finished}
+use Rattle.logs.proofs.Accepting.{log-short}
 use Rattle.logs.specs.Answers.{logFor, loggedOn, loggedAfter, loggedOf, logRoom}
 use Rattle.codes.specs.Coded.{codedWrote}
 use Rattle.codes.specs.CodedRun.{codedReplay}
@@ -216,6 +217,11 @@ module _ {s e old new : List ℕ} {k : ℕ} (L : LogGives s e old (Written k) ne
   pub log-written : (k ≡ length (logOf (graphIn s) (timesOf e))) × (new ≡ logOf (graphIn s) (timesOf e) ++ drop k old)
   unfolding logRoom logFor
   log-written = (logged .size, log-given L .1 ∙ rw (sym (log-given L .0)) refl)
+
+  -- THEOREM. 2,048 bytes are always room enough for it.
+  pub log-fits : Bytes s → k ≤ 2048
+  unfolding logFor
+  log-fits b = omega (arith, log-written .0, log-short s b (logged .taken) e (logged .fit))
 
   -- THEOREM. That log is accepted, with the finish that `run` gives for the same times, and with these times.
   pub log-replayed : {old′ new′ old″ new″ : List ℕ} {F : Ticks} {r : Replayed} → Bytes s → ReplayGives s (take k new) old′ r new′ → readOf s .graph .n ≤ length old′
