@@ -52,7 +52,7 @@ use Rattle.times.specs.Times.{timesOf, judgeTimes}
 use Rattle.times.proofs.Fits.{times-fit}
 use Rattle.leaps.specs.Finishes.{finishOf}
 use Rattle.schedule.specs.declared.Played.the-variants.{Finish as Finished}
-use Rattle.logs.proofs.Accepting.{log-short}
+use Rattle.logs.proofs.Room.{log-short}
 use Rattle.logs.specs.Answers.{logFor, loggedOn, loggedAfter, loggedOf, logRoom}
 use Rattle.codes.specs.Coded.{codedWrote}
 use Rattle.codes.specs.CodedRun.{codedReplay}

@@ -9,13 +9,9 @@ use Rattle.model.specs.Cycle.{Acyclic}
 use Rattle.model.specs.Bounds.{PARTS, NewB1}
 use Rattle.model.specs.Better.{withCores}
 use Rattle.model.proofs.Bools.{le-or-lt}
-use Rattle.model.proofs.Cycles.{walk-within}
 use Rattle.model.proofs.Longest.{new-b-1-exists, new-b-1-unique}
-use Rattle.model.proofs.Better.{cores-well, cores-between}
+use Rattle.model.proofs.Better.{cores-well, cores-acyclic, cores-between}
 use Rattle.enough.specs.Answers.{Meets, Smallest}
-
-pub cores-acyclic : {G : Graph} → Acyclic G → (s m : ℕ) → Acyclic (withCores G s m)
-cores-acyclic A s m v x = A v (walk-within (λ u w e. e) x)
 
 -- THEOREM. Whether a number meets the limit is told by its NEW-B-1.
 pub meets-within : {G : Graph} {s d m B : ℕ} → NewB1 (withCores G s m) B → Meets G s d m ↔ (B / PARTS ≤ d)

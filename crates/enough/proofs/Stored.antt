@@ -10,11 +10,10 @@ use Rattle.model.specs.Places.{pick}
 use Rattle.model.specs.Better.{withCores}
 use Rattle.model.proofs.Bools.{le-or-lt}
 use Rattle.model.proofs.Turns.{put-at}
-use Rattle.model.proofs.Better.{cores-well}
+use Rattle.model.proofs.Better.{cores-well, cores-acyclic}
 use Rattle.graph.specs.Model.{AcceptedGraph, asModel, from, to, joins}
 use Rattle.reader.specs.Laid.{graphIn, Usable}
 use Rattle.reader.specs.declared.Header.{Header}
-use Rattle.enough.proofs.Meeting.{cores-acyclic}
 
 module _ {h : Header} {c k w e st o : List ℕ} (R : Usable h c k w e st o) (s m : ℕ) (known : s < h .kinds) where
   -- a kind that has cores has a place in the list

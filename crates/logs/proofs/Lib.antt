@@ -2,5 +2,5 @@
 pub mod Gathering
 pub mod Handing
 pub mod Logging
-pub mod Accepting
+pub mod Room
 pub mod Outcomes

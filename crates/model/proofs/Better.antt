@@ -188,7 +188,7 @@ cores-well {G} W s m l h = record {
   few-cores = λ r k. pick-cases (λ x. x ≤ 16) r s m (G .cores r) (λ e. h) (W .few-cores r k);
 }
 
-cores-acyclic : {G : Graph} → Acyclic G → (s m : ℕ) → Acyclic (withCores G s m)
+pub cores-acyclic : {G : Graph} → Acyclic G → (s m : ℕ) → Acyclic (withCores G s m)
 cores-acyclic A s m v x = A v (walk-within (λ u w e. e) x)
 
 cores-better : {G : Graph} (s m : ℕ) → G .cores s ≤ m → Better G (withCores G s m)

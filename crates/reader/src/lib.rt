@@ -2,7 +2,6 @@
 ghost use mathlib.Core.Path.{_≡_};
 ghost use Prim.Native.Nat.{_≤_};
 ghost use lib.ListN.{length, replicate};
-ghost use Rattle.model.specs.Places.{padded};
 ghost use Rattle.graph.specs.File.{noGraph};
 ghost use Rattle.graph.specs.Judge.{judgeFrom, readOf};
 ghost use Rattle.graph.specs.Model.{AcceptedGraph};

@@ -33,7 +33,7 @@ pub(crate) fn source(led: &[u8; 128], ways: &[u16; 128], n: usize, k: u64) -> St
     Step { v: 0, base: 0 }
 }
 
-// The vertex that the path with the number k goes to from u, whose first path has the number `first`.
+// The vertex that the path with the number k goes to from u, whose first path has the number `first`: the last of them, where it goes to none before.
 pub(crate) fn child(
     edge: &[u16; 1024],
     start: &[u16; 129],
@@ -47,10 +47,10 @@ pub(crate) fn child(
     requires { ⌜ ((v : ℕ) → getD (now ways) v 0 ≤ 4097) ⌝ }
     ensures { λ r. ⌜ Chosen (now (edge .entry)) (now (start .entry)) (now (ways .entry)) u first k r ⌝ }
 {
-    let count = many(start, u);
+    let last = many(start, u) - 1;
     let mut base = first;
     let mut j: usize = 0;
-    while j < count {
+    while j < last {
         let v = nth(edge, start, u, j);
         let next = base + ways[v] as u64;
         if k < next {
@@ -59,5 +59,6 @@ pub(crate) fn child(
         base = next;
         j += 1;
     }
-    Step { v: 0, base: 0 }
+    let v = nth(edge, start, u, j);
+    Step { v, base }
 }

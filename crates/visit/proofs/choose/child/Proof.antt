@@ -1,27 +1,40 @@
 -- The numbers of the paths over the first j vertices lie below k.
 use mathlib.Core.Path.{_≡_}
-use Prim.Native.Nat.{_+_, _-_, _≤_}
+use mathlib.Core.Logic.{⊎-elim}
+use Prim.Native.Nat.{ℕ, _+_, _-_, _≤_, _<_}
 use native.Mathlib.Omega.{arith}
 use lib.ListN.{getD}
 use borrow.Author.Needs.{needs}
 use Rattle.model.specs.Places.{sum}
+use Rattle.model.proofs.Bools.{le-or-lt}
 use Rattle.model.proofs.Turns.{sum-next}
 use Rattle.summary.specs.Row.{many, nth}
 use Rattle.visit.proofs.choose.child.Statement.{statement}
 use Rattle.visit.proofs.choose.child.Tie as tie
 
 abbrev Inv-loop : tie.InvT-loop
-Inv-loop edge start ways u first k count base₀ j₀ base j = (j ≤ many start u) × (base ≡ first + sum (λ i. getD ways (nth edge start u i) 0) j) × (base ≤ k)
+Inv-loop edge start ways u first k last base₀ j₀ base j = (j < many start u) × (base ≡ first + sum (λ i. getD ways (nth edge start u i) 0) j) × (base ≤ k)
 
 abbrev μ-loop : tie.MeasureT-loop
-μ-loop edge start ways u first k count base₀ j₀ base j = many start u - j
+μ-loop edge start ways u first k last base₀ j₀ base j = many start u - j
 
 many-requires : tie.Need-many-requires Inv-loop μ-loop
 many-requires c κs = c .pre .0 .span
 
+-- k is the number of a path by way of one of them
+some : (c : tie.After-many Inv-loop μ-loop) → 0 < many (c .before .args .start .now) (c .before .args .u)
+unfolding sum
+some c =
+    let p = c .before .pre .1 .0 in
+    let m = many (c .before .args .start .now) (c .before .args .u) in
+    ⊎-elim (λ l. omega (arith, l)) (λ l. absurd (let e : m ≡ 0 = omega (arith, l) in omega (arith, p .0, rw e at (p .2)))) (le-or-lt 1 m)
+
+sub-last : tie.Need-sub-last Inv-loop μ-loop
+sub-last c = omega (arith, some c, c .many .ensures)
+
 loop-holds : tie.Need-loop-holds Inv-loop μ-loop
 unfolding sum
-loop-holds c = (omega arith, omega arith, c .before .pre .1 .0 .0)
+loop-holds c = (some c, omega arith, c .before .pre .1 .0 .0)
 
 nth-requires : tie.Need-nth-requires Inv-loop μ-loop
 nth-requires c κs = (c .before .before .before .pre .0, omega (arith, c .before .before .many .ensures))
@@ -70,13 +83,24 @@ loop-again c =
       c .if1 .left,
     )
 
+nth-requires-2 : tie.Need-nth-requires-2 Inv-loop μ-loop
+nth-requires-2 c κs = (c .before .before .before .pre .0, c .before .loop .inv .0)
+
 returns-2 : tie.Need-returns-2 Inv-loop μ-loop
 returns-2 c =
-    let l = c .before .loop in
-    let m = c .before .before in
+    let l = c .before .before .loop in
+    let m = c .before .before .before in
     let a = m .before .args in
-    let e : l .j ≡ many (a .start .now) (a .u) = omega (arith, m .many .ensures, l .inv .0, c .loop-test .left) in
-    absurd (omega (arith, rw e at (l .inv .1), l .inv .2, m .before .pre .1 .0 .2))
+    let e : many (a .start .now) (a .u) ≡ l .j + 1 = omega (arith, m .many .ensures, l .inv .0, c .before .loop-test .left, some m) in
+    let f : ℕ → ℕ = λ (i : ℕ). getD (a .ways .now) (nth (a .edge .now) (a .start .now) (a .u) i) 0 in
+    record {
+      place = l .j;
+      within = l .inv .0;
+      vertex = c .nth2 .ensures .0;
+      base = l .inv .1;
+      low = l .inv .2;
+      high = rw (c .nth2 .ensures .0) (omega (arith, l .inv .1, rw e at (m .before .pre .1 .0 .2), sum-next f (l .j)));
+    }
 
 pub child-spec : {M : Type 1} → statement M
 child-spec =
@@ -85,6 +109,7 @@ child-spec =
     Inv-loop
     μ-loop
     many-requires
+    sub-last
     loop-holds
     nth-requires
     mul-next
@@ -95,4 +120,5 @@ child-spec =
     add-j
     loop-less
     loop-again
+    nth-requires-2
     returns-2)
