@@ -1,10 +1,10 @@
 //! What `plan compare` answers for an accepted graph and an altered one: the numbers from the planner's reference, and the first point in which the
 //! altered one is not as good, looked for anew from docs/orders/11.md.
 use crate::generate::Random;
-use crate::planner::bounds::bounds;
-use crate::planner::graph::{Graph, MOST_CORES, MOST_EDGES, MOST_KINDS, MOST_VERTICES, MOST_WCET};
-use crate::planner::order::topological;
-use crate::planner::second::second;
+use crate::reference::bounds::bounds;
+use crate::reference::graph::{Graph, MOST_CORES, MOST_EDGES, MOST_KINDS, MOST_VERTICES, MOST_WCET};
+use crate::reference::order::topological;
+use crate::reference::second::second;
 
 /// The same, or with some things changed for the better or the worse.
 pub fn altered(r: &mut Random, graph: &Graph) -> Graph {

@@ -2,9 +2,9 @@
 //! stage and a tick.
 use crate::gains::{no, number, quoted, Answer, Number, LARGE, NO_NUMBER};
 use crate::generate::Random;
-use crate::planner;
-use crate::planner::enough::ticks_with;
-use crate::planner::graph::{Graph, MOST_CORES};
+use crate::reference;
+use crate::reference::enough::ticks_with;
+use crate::reference::graph::{Graph, MOST_CORES};
 
 /// The smallest number of cores, by what both arguments say. Of a type that there is not only the first line is said here.
 pub fn enough(graph: &Graph, names: &[Vec<u8>], kind: &[u8], ticks: &[u8]) -> Answer {
@@ -21,7 +21,7 @@ pub fn enough(graph: &Graph, names: &[Vec<u8>], kind: &[u8], ticks: &[u8]) -> An
         Number::Large => return no("TICKS large", quoted("TICKS: ", ticks, LARGE)),
         Number::None => return no("TICKS no number", quoted("TICKS: ", ticks, NO_NUMBER)),
     };
-    match planner::enough::enough(graph, s, limit) {
+    match reference::enough::enough(graph, s, limit) {
         Ok(cores) => Answer { row: "enough", said: format!("cores {cores}\n").into_bytes(), digit: b"0" },
         Err(refusal) if refusal.number == 25 => no("25", b"refused 25 at 0".to_vec()),
         Err(_) => no("26", [b"refused 26 at 0\nTICKS: 16 cores of type \"", kind, b"\" are too few\n"].concat()),

@@ -1,7 +1,7 @@
 //! What `plan gains` answers for an accepted graph: its gains from the planner's reference, the rest from docs/BOARD.md.
 use crate::generate::Random;
-use crate::planner::gains::{gains_altered, gains_of, ranking};
-use crate::planner::graph::{Graph, PARTS_IN_A_TICK};
+use crate::reference::gains::{gains_altered, gains_of, ranking};
+use crate::reference::graph::{Graph, PARTS_IN_A_TICK};
 
 /// What is printed, the status digit, and which row of docs/BOARD.md it is.
 pub struct Answer {

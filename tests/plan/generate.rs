@@ -25,11 +25,32 @@ impl Random {
     }
 }
 
-const LETTERS: &[&str] = &["a", "b", "infer", "x9", "7", "tile-3", "\u{e9}t\u{e9}", "\"q\"", "cores-", "Cores", "=", "%*"];
+const LETTERS: &[&str] = &["a", "b", "infer", "x9", "7", "tile-3", "\u{e9}t\u{e9}", "\"q\"", "cores-", "Cores", "=", "%*", "\\", "<b>&amp;", "'&\"\\n", "]]>"];
+
+/// Characters of three and four bytes, two that XML has not among them, and the limits of both.
+const WIDE: &[&str] = &["\u{6c34}", "\u{1f34e}", "\u{800}", "\u{fffd}", "\u{fffe}", "\u{ffff}", "\u{10000}", "\u{10ffff}"];
+
+/// The bytes at the limits of what is UTF-8.
+const HIGH: &[u8] = b"\x80\x8f\x90\x9f\xa0\xbf\xc0\xc1\xc2\xdf\xe0\xe1\xec\xed\xee\xef\xf0\xf1\xf3\xf4\xf5\xff";
 
 fn name(r: &mut Random, i: usize) -> Vec<u8> {
     let mut word = r.one(LETTERS).as_bytes().to_vec();
     word.extend(format!("{i}").bytes());
+    if r.chance(4) {
+        let first = *r.one(HIGH);
+        word.push(first);
+        // more often than not as many as such a first byte wants
+        let more = if r.chance(3) { r.below(4) } else { first.leading_ones() as usize % 5 - 1 };
+        for _ in 0..more {
+            let among = if r.chance(6) { HIGH } else { &HIGH[..6] };
+            word.push(*r.one(among));
+        }
+    }
+    if r.chance(6) {
+        for _ in 0..1 + r.below(12) {
+            word.extend(r.one(WIDE).bytes());
+        }
+    }
     if r.chance(40) {
         word.resize(64, b'n');
         word[0] = b'0' + (i % 10) as u8;
@@ -148,7 +169,7 @@ fn some_line(r: &mut Random, text: &[u8]) -> (usize, usize) {
 
 fn word_place(r: &mut Random, text: &[u8]) -> (usize, usize) {
     let (start, end) = some_line(r, text);
-    let words = crate::reference::words(&text[start..end]);
+    let words = crate::board::words(&text[start..end]);
     if words.is_empty() {
         return (start, start);
     }

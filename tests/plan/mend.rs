@@ -2,8 +2,8 @@
 //! reference, the lines from docs/orders/12.md.
 use crate::gains::{no, Answer};
 use crate::generate::Random;
-use crate::planner::graph::RECORD;
-use crate::planner::mend::mend;
+use crate::reference::graph::RECORD;
+use crate::reference::mend::mend;
 
 type Record = [u8; RECORD];
 

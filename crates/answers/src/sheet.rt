@@ -5,7 +5,7 @@ use bounds::Pathed;
 use graph::Graph;
 
 // How many vertices the path has, which stand in the room.
-fn found(g: Graph, room: &mut [u8]) -> usize
+pub fn found(g: Graph, room: &mut [u8]) -> usize
     requires { ⌜ AcceptedGraph g ⌝ }
 {
     let found = bounds::path_into(g, room);

@@ -60,7 +60,7 @@ fn judged(t: &[u8], names: Names, g: Graph, u: &[u8]) -> u8
     requires { ⌜ AcceptedGraph g ⌝ }
 {
     let mut room = [0u8; 9304];
-    let made = input::given::file(SECOND, u, &mut room);
+    let made = input::given::file(SECOND, u, false, &mut room);
     if made.status != input::ANSWER {
         return made.status;
     }

@@ -1,11 +1,13 @@
 -- What the contract of each entry allows is what its definition says. Everything else in this crate is proved from these lines, so that a
 -- contract which is weakened breaks here.
 use mathlib.Core.Path.{_≡_, sym, ap, ap₂, _∙_}
-use mathlib.Core.List.{List}
+use mathlib.Core.List.{List, _++_}
 use Prim.Native.Nat.{ℕ}
-use lib.ListN.{length}
+use lib.ListN.{length, drop}
+use Rattle.graph.specs.File.{records}
 use Rattle.graph.specs.Judge.{readOf}
 use Rattle.graph.specs.declared.Answer.{Answer}
+use Rattle.graph.specs.declared.Graph.{Graph}
 use Rattle.graph.specs.declared.Taken.{Taken}
 use Rattle.reader.specs.Laid.{RowsInto, KinInto}
 use Rattle.writer.specs.Lists.{Lists}
@@ -31,6 +33,10 @@ use Rattle.late.specs.Answers.{LateOf}
 use Rattle.late.specs.declared.Lateness.{Lateness}
 use Rattle.enough.specs.Answers.{EnoughOf}
 use Rattle.enough.specs.declared.Fewest.{Fewest}
+use Rattle.boards.specs.Points.{pointOf}
+use Rattle.boards.specs.declared.Point.{Point}
+use Rattle.lanes.specs.Lanes.{lanesOf}
+use Rattle.lanes.specs.Passing.{listed}
 use Rattle.replay.specs.Answers.{replayOf, timesAfter}
 use Rattle.replay.specs.declared.Replayed.{Replayed}
 use Rattle.logs.specs.Answers.{loggedOf, logRoom}
@@ -49,7 +55,7 @@ use Rattle.codes.specs.declared.PlannerTick.{PlannerTick}
 use Rattle.codes.specs.declared.PlannerFinish.{PlannerFinish}
 use Rattle.codes.specs.declared.PlannerLate.{PlannerLate}
 use Rattle.codes.specs.declared.PlannerMended.{PlannerMended}
-use Rattle.claims.specs.Entries.{ReadGives, RowsGives, KinGives, WriteGives, BoundsGives, SecondGives, PathGives, GainsGives, AlteredGives, StartGives, TickGives, TickInPlaceGives, RunGives, LateGives, EnoughGives, ReplayGives, LogGives, StgReadGives, StgWriteGives, MendGives, PlannerReadGives, PlannerWriteGives, PlannerBoundsGives, PlannerSecondGives, PlannerPathGives, PlannerGainsGives, PlannerAlteredGives, PlannerStartGives, PlannerTickGives, PlannerTickInPlaceGives, PlannerRunGives, PlannerLateGives, PlannerEnoughGives, PlannerReplayGives, PlannerLogGives, PlannerStgReadGives, PlannerStgWriteGives, PlannerMendGives}
+use Rattle.claims.specs.Entries.{ReadGives, RowsGives, KinGives, WriteGives, BoundsGives, SecondGives, PathGives, GainsGives, AlteredGives, StartGives, TickGives, TickInPlaceGives, RunGives, LateGives, EnoughGives, WorseGives, LanesGives, ReplayGives, LogGives, StgReadGives, StgWriteGives, MendGives, PlannerReadGives, PlannerWriteGives, PlannerBoundsGives, PlannerSecondGives, PlannerPathGives, PlannerGainsGives, PlannerAlteredGives, PlannerStartGives, PlannerTickGives, PlannerTickInPlaceGives, PlannerRunGives, PlannerLateGives, PlannerEnoughGives, PlannerReplayGives, PlannerLogGives, PlannerStgReadGives, PlannerStgWriteGives, PlannerMendGives}
 
 pub read-given : {s : List ℕ} {t : Taken} → ReadGives s t → t ≡ readOf s
 read-given h = sym (h .as-seen .1) ∙ h .ensured ∙ ap readOf (h .as-seen .0)
@@ -146,6 +152,12 @@ enough-given h = let i = h .as-seen in rw (← i .0, ← i .1, ← i .2, ← i .
 
 pub planner-late-given : {s e : List ℕ} {d : ℕ} {r : PlannerLate} → PlannerLateGives s e d r → LateCoded s e d r
 planner-late-given h = let i = h .as-seen in rw (← i .0, ← i .1, ← i .2, ← i .3) (h .ensured)
+
+pub worse-given : {g h : Graph} {p : Point} → WorseGives g h p → p ≡ pointOf g h
+worse-given w = let i = w .as-seen in sym (i .2) ∙ w .ensured ∙ ap₂ pointOf (i .0) (i .1)
+
+pub lanes-given : {l kind cores old new : List ℕ} {n : ℕ} → LanesGives l n kind cores old new → new ≡ lanesOf n l (listed kind) (listed cores) ++ drop (records l) old
+lanes-given h = let i = h .as-seen in rw (← i .0, ← i .1, ← i .2, ← i .3, ← i .4, ← i .5) (h .ensured)
 
 pub replay-given : {s l old new : List ℕ} {r : Replayed} → ReplayGives s l old r new → (r ≡ replayOf s l (length old)) × (new ≡ timesAfter s l old)
 replay-given h = let i = h .as-seen in rw (← i .0, ← i .1, ← i .2, ← i .3, ← i .4) (h .ensured)

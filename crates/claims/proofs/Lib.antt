@@ -18,6 +18,8 @@ pub mod Order10
 pub mod Order11
 pub mod Order12
 pub mod Order13
+-- What pictures rest on.
+pub mod Charts
 -- What they cite of this crate.
 pub mod Entries
 pub mod Judged

@@ -4,7 +4,7 @@
 -- Said over the contracts of the entries `bounds` and `second` (specs/Entries), for two files that both accept: s before the change, s′ after it.
 -- "Up to 16" is then in their acceptance. That nothing else differs is `SameGraph`, of the model's graphs of the two files.
 use mathlib.Core.Path.{_≡_, sym, ap, _∙_}
-use mathlib.Core.Logic.{_↔_}
+use mathlib.Core.Logic.{_↔_, ⊎-elim}
 use mathlib.Core.List.{List}
 use Prim.Native.Nat.{ℕ, _≤_, _<_}
 use native.Mathlib.Omega.{arith}
@@ -12,24 +12,35 @@ use Rattle.model.specs.Bounds.{NewB1}
 use Rattle.model.specs.PathCount.{pathCount}
 use Rattle.model.specs.Gain.{withWcet}
 use Rattle.model.specs.Better.{Better, Looser, withCores, withoutEdge, SameGraph, Improved, raised, lowered, Loosened, improved, removed, Several}
+use Rattle.model.proofs.Bools.{le-or-lt}
 use Rattle.model.proofs.Better as model
 use Rattle.model.proofs.Longest.{old-b-unique}
 use Rattle.model.proofs.Visit.{new-b-2-unique}
+use Rattle.graph.specs.Judge.{readOf}
+use Rattle.graph.specs.Model.{asModel}
+use Rattle.graph.specs.declared.Graph as file
 use Rattle.graph.specs.declared.Taken.{Taken}
 use Rattle.graph.specs.declared.Answer.the-variants.{Accepted}
 use Rattle.graph.proofs.Accepted as reader
+use Rattle.boards.specs.Points.{pointOf}
+use Rattle.boards.specs.declared.Point.{Point}
+use Rattle.boards.proofs.Good.{as-good, as-good-but-edges}
 use Rattle.second.specs.Answers.{SecondIn, too-many, found, SecondOf, refused, accepted}
 use Rattle.second.specs.declared.Seconded.{Seconded}
 use Rattle.bounds.specs.declared.Bounded.{Bounded}
 use Rattle.claims.specs.Claims.{Bytes, IsAccepted, graphIn}
-use Rattle.claims.specs.Entries.{ReadGives, BoundsGives, SecondGives}
+use Rattle.claims.specs.Entries.{ReadGives, BoundsGives, SecondGives, WorseGives}
 use Rattle.claims.specs.Worked as worked
-use Rattle.claims.proofs.Entries.{read-given, bounds-given, second-given}
+use Rattle.claims.proofs.Entries.{read-given, bounds-given, second-given, worse-given}
 use Rattle.claims.proofs.Demand2.{bounds-are}
 use Rattle.claims.proofs.Order4.{accepted-file, second-is}
 use Rattle.claims.proofs.Worked.{cases, c-raises-b, parted-lacks, joined-paths, parted-paths}
 
 -- ---- NEW-B-1
+
+-- row 0 or 1: at least as good, but perhaps for edges that are missing
+looser : (g h : file.Graph) → pointOf g h .row ≤ 1 → Looser (asModel g) (asModel h)
+looser g h l = ⊎-elim (λ m. as-good-but-edges g h (omega (arith, l, m))) (λ m. model.better-looser (as-good g h (omega (arith, m)))) (le-or-lt 1 (pointOf g h .row))
 
 module _ {s s′ : List ℕ} {b b′ : Bounded} (bytes : Bytes s) (bytes′ : Bytes s′) (B : BoundsGives s b) (ok : b .answer ≡ Accepted) (B′ : BoundsGives s′ b′) (ok′ : b′ .answer ≡ Accepted) where
   -- THEOREM. Whole boards: the same stages and types, each type with at least as many cores and each WCET at most what it was, and no edge that was not
@@ -59,6 +70,11 @@ module _ {s s′ : List ℕ} {b b′ : Bounded} (bytes : Bytes s) (bytes′ : By
   pub several-new : Several Loosened (graphIn s) (graphIn s′) → b′ .new .0 ≤ b .new .0
   several-new m = board-new (model.several-looser m)
 
+  -- THEOREM. What `plan compare` promises: where it finds no point in which the second board is worse (row 0), or only that edges are missing
+  -- (row 1), NEW-B-1 and its whole ticks do not rise.
+  pub promised-new : {p : Point} → WorseGives (readOf s .graph) (readOf s′ .graph) p → p .row ≤ 1 → (b′ .new .0 ≤ b .new .0) × (b′ .ticks .0 ≤ b .ticks .0)
+  promised-new {p} w l = let z = looser (readOf s .graph) (readOf s′ .graph) (rw (sym (worse-given w)) l) in (board-new z, board-ticks z)
+
 -- ---- NEW-B-2, wherever both graphs get it
 
 module _ {s s′ : List ℕ} {r r′ : Seconded} (bytes : Bytes s) (bytes′ : Bytes s′) (R : SecondGives s r) (ok : r .answer ≡ Accepted) (R′ : SecondGives s′ r′) (ok′ : r′ .answer ≡ Accepted) where
@@ -68,6 +84,10 @@ module _ {s s′ : List ℕ} {r r′ : Seconded} (bytes : Bytes s) (bytes′ : B
       let A = reader.taken s bytes (accepted-file (second-given R) ok) in
       let A′ = reader.taken s′ bytes′ (accepted-file (second-given R′) ok′) in
       model.better-second (A .well-formed) (A′ .well-formed) l _ _ (second-is R ok .0) (second-is R′ ok′ .0)
+
+  -- THEOREM. What `plan compare` promises of it: where it finds no point in which the second board is worse, NEW-B-2 does not rise.
+  pub promised-second : {p : Point} → WorseGives (readOf s .graph) (readOf s′ .graph) p → p .row ≡ 0 → r′ .parts .0 ≤ r .parts .0
+  promised-second w e = board-second (as-good (readOf s .graph) (readOf s′ .graph) (ap (λ (x : Point). x .row) (sym (worse-given w)) ∙ e))
 
   -- THEOREM. One type gets more cores.
   pub cores-second : (t m : ℕ) → graphIn s .cores t ≤ m → SameGraph (withCores (graphIn s) t m) (graphIn s′) → r′ .parts .0 ≤ r .parts .0

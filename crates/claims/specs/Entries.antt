@@ -30,6 +30,8 @@
 --   RenewedGives .. w old v r        the summary r that old is brought up to date to, where w differs in the weight of v
 --   RankingGives gain n l            the ranking l by the gains of n vertices
 --   UntilGives g run d x             the record x of a run of the graph g up to tick d, from the record `run`
+--   WorseGives g h p                 `boards::worse`: the first point p in which the graph h is worse than g
+--   LanesGives l n kind cores old new   `lanes::name`: the lent list from old to new, for the log l of n vertices with these kinds and cores
 use mathlib.Core.Path.{_≡_}
 use mathlib.Core.List.{List}
 use Prim.Native.Nat.{ℕ}
@@ -91,6 +93,11 @@ use Rattle.late.proofs.late.Reads as late-reads
 use Rattle.enough.specs.declared.Fewest.{Fewest}
 use Rattle.enough.proofs.enough as enough
 use Rattle.enough.proofs.enough.Reads as enough-reads
+use Rattle.boards.specs.declared.Point.{Point}
+use Rattle.boards.proofs.worse as worse
+use Rattle.boards.proofs.worse.Reads as worse-reads
+use Rattle.lanes.proofs.name as lanes-name
+use Rattle.lanes.proofs.name.Reads as lanes-name-reads
 use Rattle.replay.specs.declared.Replayed.{Replayed}
 use Rattle.replay.proofs.replay as replay
 use Rattle.replay.proofs.replay.Reads as replay-reads
@@ -206,6 +213,15 @@ abbrev pub KinGives : List ℕ → Answer → List (List ℕ) → List (List ℕ
 KinGives s x p a =
     Allows take-kin.ended take-kin-reads.Post
     (λ κs b r e. (now (b .0) ≡ s) × (r .answer ≡ x) × (now (e .1 .1 .1 .1 .1 .1 .1 .0) ≡ p) × (now (e .1 .1 .1 .1 .1 .1 .1 .1 .0) ≡ a))
+
+abbrev pub WorseGives : Graph → Graph → Point → Type 0
+WorseGives g h p = Allows worse.ended worse-reads.Post (λ κs a r e. (a .0 ≡ g) × (a .1 .0 ≡ h) × (r ≡ p))
+
+abbrev pub LanesGives : List ℕ → ℕ → List ℕ → List ℕ → List ℕ → List ℕ → Type 0
+LanesGives l n kind cores old new =
+    Allows lanes-name.ended lanes-name-reads.Post
+    (λ κs b r e. (now (b .0) ≡ l) × (b .1 .0 ≡ n) × (now (b .1 .1 .0) ≡ kind) × (now (b .1 .1 .1 .0) ≡ cores) × (now (b .1 .1 .1 .1 .0) ≡ old)
+    × (now (e .1 .1 .1 .1 .0) ≡ new))
 
 abbrev pub ReplayGives : List ℕ → List ℕ → List ℕ → Replayed → List ℕ → Type 0
 ReplayGives s l old r new =

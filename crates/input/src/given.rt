@@ -1,7 +1,9 @@
 // What a word of the command is given, as a graph file: one that is named, or the one of a board text.
 ghost use Prim.Native.Nat.{_≤_};
 use crate::net;
+use crate::net::Net;
 use board::Names;
+use graph::Refusal;
 use writer::Wrote;
 
 // The status, and where it is an answer the file's length and the names; else it has been said what is wrong.
@@ -43,29 +45,32 @@ fn laid(t: &[u8], room: &mut [u8]) -> usize {
     n
 }
 
+// A refusal: as JSON, or in lines of which the second says what it is about.
+fn refused(k: usize, t: &[u8], names: Names, lists: Net, r: Refusal, json: bool) -> bool {
+    if json {
+        return say::json::refused(r);
+    }
+    let edge = lists.edge;
+    let first = say::out::refused(r);
+    first & reasons::said(k, t, names, &edge, lists.edges, r)
+}
+
 // The file of a board text whose names are known.
-fn looked_up(k: usize, t: &[u8], names: Names, room: &mut [u8]) -> Given {
+fn looked_up(k: usize, t: &[u8], names: Names, json: bool, room: &mut [u8]) -> Given {
     let lists = net::of(t, names);
     let f = lists.fault;
     if f.row != faults::FINE {
-        return no(reasons::fault::of_text(k, t, f), names);
+        return no(reasons::fault::of_board(k, t, f, json), names);
     }
     let wrote = net::write(t, names, lists, room);
     match wrote {
         Wrote::Bytes(n) => yes(n, names),
-        Wrote::Refused(r) => {
-            let edge = lists.edge;
-            let first = say::out::refused(r);
-            no(
-                first & reasons::said(k, t, names, &edge, lists.edges, r),
-                names,
-            )
-        }
+        Wrote::Refused(r) => no(refused(k, t, names, lists, r, json), names),
     }
 }
 
-// The graph file of what argument k names, whose bytes are t, laid in the room.
-pub fn file(k: usize, t: &[u8], room: &mut [u8]) -> Given {
+// The graph file of what argument k names, whose bytes are t, laid in the room. What is wrong with a board text is said as JSON or not.
+pub fn file(k: usize, t: &[u8], json: bool, room: &mut [u8]) -> Given {
     if texts::until(t, 0, texts::ZERO) < t.len() {
         let n = laid(t, room);
         return yes(n, board::nameless());
@@ -74,7 +79,7 @@ pub fn file(k: usize, t: &[u8], room: &mut [u8]) -> Given {
     let f = b.fault;
     let names = b.names;
     if f.row != faults::FINE {
-        return no(reasons::fault::of_text(k, t, f), names);
+        return no(reasons::fault::of_board(k, t, f, json), names);
     }
-    looked_up(k, t, names, room)
+    looked_up(k, t, names, json, room)
 }

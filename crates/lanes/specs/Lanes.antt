@@ -1,5 +1,3 @@
--- For our own layers alone: no contract for callers and no claim cites this file yet.
---
 -- Which core: a schedule of the model counts cores, and a log says who runs; here each stretch of a log in form gets a core of its kind. `l` is
 -- the log, n how many vertices there are, `kind` the kind of each vertex, `cores` the cores of each kind, k how many records are passed.
 --

@@ -1,4 +1,4 @@
-// The words of the command: a row for each in `number` and in `answered`, and a line in `say::help`.
+// The words of the command: a row for each by how many arguments it takes and in `answered`, and a line in `say::help`.
 ghost use Rattle.graph.specs.Model.{AcceptedGraph};
 use board::Names;
 use graph::Answer;
@@ -33,6 +33,14 @@ const COMPARE: u8 = 12;
 
 const ENOUGH: u8 = 13;
 
+const JSON: u8 = 14;
+
+const CHART: u8 = 15;
+
+const CHART_GIVEN: u8 = 16;
+
+const DOT: u8 = 17;
+
 const MEND: u8 = 250;
 
 const FROM_STG: u8 = 251;
@@ -45,78 +53,111 @@ const FILE: u8 = 254;
 
 const UNKNOWN: u8 = 255;
 
-// Which word stands first, where there are as many arguments as it takes, the command's own name among them.
-fn number(word: &[u8], n: usize) -> u8 {
+// The word with one argument, a file: what is read of it.
+fn of_file(word: &[u8]) -> u8 {
     if texts::equal(word, b"sheet") {
-        return if n == 3 { SHEET } else { UNKNOWN };
+        return SHEET;
     }
-    if texts::equal(word, b"run") {
-        return if n == 3 {
-            RUN
-        } else if n == 4 {
-            RUN_TIMED
-        } else {
-            UNKNOWN
-        };
+    if texts::equal(word, b"json") {
+        return JSON;
     }
     if texts::equal(word, b"graph") {
-        return if n == 3 { GRAPH } else { UNKNOWN };
+        return GRAPH;
     }
     if texts::equal(word, b"text") {
-        return if n == 3 { TEXT } else { UNKNOWN };
-    }
-    if texts::equal(word, b"gains") {
-        return if n == 3 {
-            GAINS
-        } else if n == 5 {
-            GAINS_ALTERED
-        } else {
-            UNKNOWN
-        };
-    }
-    if texts::equal(word, b"late") {
-        return if n == 5 { LATE } else { UNKNOWN };
-    }
-    if texts::equal(word, b"replay") {
-        return if n == 4 { REPLAY } else { UNKNOWN };
-    }
-    if texts::equal(word, b"log") {
-        return if n == 3 {
-            LOG
-        } else if n == 4 {
-            LOG_TIMED
-        } else {
-            UNKNOWN
-        };
-    }
-    if texts::equal(word, b"from-stg") {
-        return if n == 5 { FROM_STG } else { UNKNOWN };
+        return TEXT;
     }
     if texts::equal(word, b"to-stg") {
-        return if n == 3 { TO_STG } else { UNKNOWN };
+        return TO_STG;
     }
-    if texts::equal(word, b"compare") {
-        return if n == 4 { COMPARE } else { UNKNOWN };
+    if texts::equal(word, b"dot") {
+        return DOT;
     }
-    if texts::equal(word, b"enough") {
-        return if n == 5 { ENOUGH } else { UNKNOWN };
-    }
-    if texts::equal(word, b"mend") {
-        return if n == 4 { MEND } else { UNKNOWN };
-    }
-    if n != 2 {
-        return UNKNOWN;
-    }
-    alone(word)
+    UNKNOWN
 }
 
-// The same for words that stand alone. Any other is a file, but for what looks like an option.
+// The same, with full WCETs.
+fn of_one(word: &[u8]) -> u8 {
+    if texts::equal(word, b"run") {
+        return RUN;
+    }
+    if texts::equal(word, b"log") {
+        return LOG;
+    }
+    if texts::equal(word, b"chart") {
+        return CHART;
+    }
+    if texts::equal(word, b"gains") {
+        return GAINS;
+    }
+    of_file(word)
+}
+
+// With two arguments.
+fn of_two(word: &[u8]) -> u8 {
+    if texts::equal(word, b"run") {
+        return RUN_TIMED;
+    }
+    if texts::equal(word, b"log") {
+        return LOG_TIMED;
+    }
+    if texts::equal(word, b"chart") {
+        return CHART_GIVEN;
+    }
+    if texts::equal(word, b"replay") {
+        return REPLAY;
+    }
+    if texts::equal(word, b"compare") {
+        return COMPARE;
+    }
+    if texts::equal(word, b"mend") {
+        return MEND;
+    }
+    UNKNOWN
+}
+
+// With three.
+fn of_three(word: &[u8]) -> u8 {
+    if texts::equal(word, b"gains") {
+        return GAINS_ALTERED;
+    }
+    if texts::equal(word, b"late") {
+        return LATE;
+    }
+    if texts::equal(word, b"enough") {
+        return ENOUGH;
+    }
+    if texts::equal(word, b"from-stg") {
+        return FROM_STG;
+    }
+    UNKNOWN
+}
+
+// Which word stands first, where there are as many arguments as it takes, the command's own name among them.
+fn number(word: &[u8], n: usize) -> u8 {
+    match n {
+        2 => alone(word),
+        3 => of_one(word),
+        4 => of_two(word),
+        5 => of_three(word),
+        _ => UNKNOWN,
+    }
+}
+
+fn takes_more(word: &[u8]) -> bool {
+    (of_one(word) != UNKNOWN) | (of_two(word) != UNKNOWN) | (of_three(word) != UNKNOWN)
+}
+
+// A word that stands alone. Any that is none of the command's is a file, but for what looks like an option.
 fn alone(word: &[u8]) -> u8 {
     if texts::equal(word, b"help") | texts::equal(word, b"--help") | texts::equal(word, b"-h") {
         return HELP;
     }
     if texts::equal(word, b"version") | texts::equal(word, b"--version") {
         return VERSION;
+    }
+    if takes_more(word) {
+        return UNKNOWN;
     }
     if word.len() > 1 {
         if word[0] == b'-' {
@@ -144,14 +185,21 @@ fn answered(word: u8, t: &[u8], names: Names, g: Graph, file: &[u8]) -> u8
         11 => answers_stg::written(file),
         12 => answers_compare::answer(t, names, g),
         13 => answers_enough::fewest(t, names, file),
+        14 => answers_json::answer(t, names, g),
+        15 => answers_chart::full(t, names, g, file),
+        16 => answers_chart::given(t, names, g, file),
+        17 => answers_dot::answer(t, names, g),
         _ => answers::sheet::answer(t, names, g),
     }
 }
 
-// A refusal. Of two files it is said which one is refused.
+// A refusal, as the word has its answers. Of two files it is said which one is refused.
 fn refused(word: u8, r: Refusal) -> u8 {
     if word == COMPARE {
         return answers_compare::refused(answers_compare::FIRST, r);
+    }
+    if word == JSON {
+        return input::status(say::json::refused(r), input::NO);
     }
     input::status(say::out::refused(r), input::NO)
 }
@@ -172,7 +220,7 @@ fn taken(word: u8, t: &[u8], names: Names, file: &[u8]) -> u8 {
 // What is said of the bytes that argument k names.
 fn judged(word: u8, k: usize, t: &[u8]) -> u8 {
     let mut room = [0u8; 9304];
-    let made = input::given::file(k, t, &mut room);
+    let made = input::given::file(k, t, word == JSON, &mut room);
     if made.status != input::ANSWER {
         return made.status;
     }
@@ -192,7 +240,11 @@ fn read(word: u8, k: usize) -> u8 {
 
 // Whether argument 3 names something to be read as well.
 fn has_two(word: u8) -> bool {
-    (word == RUN_TIMED) | (word == LATE) | (word == REPLAY) | (word == LOG_TIMED)
+    (word == RUN_TIMED)
+        | (word == LATE)
+        | (word == REPLAY)
+        | (word == LOG_TIMED)
+        | (word == CHART_GIVEN)
 }
 
 fn row(word: u8) -> u8 {

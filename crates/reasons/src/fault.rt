@@ -1,7 +1,9 @@
-// What a text gets wrong: the file, the line, the word.
+// What a text gets wrong: the file, the line, the word. Of a board text it may be asked for as JSON (docs/JSON.md).
 ghost use Prim.Native.Nat.{_≤_};
 use board::Names;
 use faults::Fault;
+use quoted::json::name;
+use say::json::member;
 use say::names;
 use say::out;
 use texts::part;
@@ -40,8 +42,17 @@ fn worded(row: &[u8], word: &[u8]) -> bool {
     before & out::text(b"\"") & out::text(part(row, mark + 1, row.len())) & out::end()
 }
 
+// A row as it stands, and the word, which is null where the row has no mark.
+fn as_json(row: &[u8], word: &[u8]) -> bool {
+    let says = out::text(b", \"says\": ") & name(row) & out::text(b", \"word\": ");
+    if until(row, 0, b'*') < row.len() {
+        return says & name(word) & out::text(b"}}\n");
+    }
+    says & out::text(b"null}}\n")
+}
+
 // A fault, about a word: a row for each, with `*` where the word stands.
-fn saying(fault: usize, word: &[u8]) -> bool {
+fn saying(fault: usize, word: &[u8], json: bool) -> bool {
     let rows = b"fine
 the text has more than 65536 bytes
 * is a byte that is no text
@@ -69,7 +80,11 @@ no type is declared
 no stage is declared
 the graph has no stage *
 ";
-    worded(row(rows, fault), word)
+    let says = row(rows, fault);
+    if json {
+        return as_json(says, word);
+    }
+    worded(says, word)
 }
 
 fn one(b: bool) -> u64
@@ -100,17 +115,32 @@ fn placed(k: usize, t: &[u8], at: usize) -> bool {
     first & out::text(b": ")
 }
 
-// What the text that argument k names gets wrong, with the word from a place of it to another.
-pub fn said(k: usize, t: &[u8], fault: usize, at: usize, end: usize) -> bool {
-    placed(k, t, at) & saying(fault, part(t, at, end))
+// What the text that argument k names gets wrong at a place of it, about a word.
+fn told(k: usize, t: &[u8], fault: usize, at: usize, word: &[u8], json: bool) -> bool {
+    if json {
+        let first = member(b"{\"fault\": {\"line\": ", line(t, at));
+        return first & saying(fault, word, true);
+    }
+    placed(k, t, at) & saying(fault, word, false)
 }
 
-// The same of a fault that was found in a text: the word ends where it does.
-pub fn of_text(k: usize, t: &[u8], f: Fault) -> bool {
+// The same with the word from a place to another.
+pub fn said(k: usize, t: &[u8], fault: usize, at: usize, end: usize) -> bool {
+    told(k, t, fault, at, part(t, at, end), false)
+}
+
+// The same of a fault that was found in a board text, as JSON or not: the word ends where it does.
+pub fn of_board(k: usize, t: &[u8], f: Fault, json: bool) -> bool {
     if f.row == faults::STRANGE {
-        return said_byte(k, t, f.row, f.at);
+        return told_byte(k, t, f.row, f.at, json);
     }
-    said(k, t, f.row, f.at, texts::until(t, f.at, texts::END))
+    let end = texts::until(t, f.at, texts::END);
+    told(k, t, f.row, f.at, part(t, f.at, end), json)
+}
+
+// The same in another text.
+pub fn of_text(k: usize, t: &[u8], f: Fault) -> bool {
+    of_board(k, t, f, false)
 }
 
 fn wide(b: u8) -> u64 {
@@ -118,27 +148,27 @@ fn wide(b: u8) -> u64 {
 }
 
 // The same with the number of the byte at the place.
-fn said_byte(k: usize, t: &[u8], fault: usize, at: usize) -> bool {
+fn told_byte(k: usize, t: &[u8], fault: usize, at: usize, json: bool) -> bool {
     let mut digits = [0u8; 20];
     let byte = if at < t.len() { t[at] } else { 0 };
     let n = io::decimal(wide(byte), &mut digits);
-    placed(k, t, at) & saying(fault, &digits[..n])
+    told(k, t, fault, at, &digits[..n], json)
 }
 
 // The same with the name of a type, or of a stage.
 pub fn said_kind(k: usize, t: &[u8], of: Names, fault: usize, i: usize) -> bool {
     let at = if i < 10 { of.kind[i] } else { 0 };
-    placed(k, t, at) & saying(fault, names::of_kind(t, of, i))
+    told(k, t, fault, at, names::of_kind(t, of, i), false)
 }
 
 pub fn said_stage(k: usize, t: &[u8], of: Names, fault: usize, v: usize) -> bool {
     let at = if v < 128 { of.stage[v] } else { 0 };
-    placed(k, t, at) & saying(fault, names::of_stage(t, of, v))
+    told(k, t, fault, at, names::of_stage(t, of, v), false)
 }
 
 // What is wrong with the argument that `plan help` calls so, which has the word.
 pub fn said_argument(called: &[u8], fault: usize, word: &[u8]) -> bool {
-    out::text(called) & out::text(b": ") & saying(fault, word)
+    out::text(called) & out::text(b": ") & saying(fault, word, false)
 }
 
 // A text of times, named by argument k, that has another number of them than the graph has stages.

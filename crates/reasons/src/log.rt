@@ -55,22 +55,31 @@ fn malformed(log: &[u8], n: usize, place: u32) -> bool {
     out::text(b"record") & out::field(place as u64) & out::text(b" is malformed")
 }
 
-fn said(log: &[u8], t: &[u8], of: Names, n: usize, r: Refusal) -> bool {
-    let k = (r.place % 8192) as usize;
+// What is said of the rule that a log breaks, after who breaks it and when.
+pub fn rule(number: u32) -> bool {
+    match number {
+        19 => out::text(b", before a stage that it waits for has finished"),
+        20 => out::text(b", where more stages run than its type has cores"),
+        21 => out::text(b" ran longer than its WCET"),
+        _ => out::text(b" a core is idle while a stage of its type is ready"),
+    }
+}
+
+// Who breaks it, and when.
+fn subject(log: &[u8], t: &[u8], of: Names, r: Refusal) -> bool {
     let number = r.number;
     match number {
-        18 => malformed(log, n, r.place),
-        19 => start(log, t, of, k) & out::text(b", before a stage that it waits for has finished"),
-        20 => start(log, t, of, k) & out::text(b", where more stages run than its type has cores"),
-        21 => {
-            let first = out::text(b"stage ") & quoted(t, of, r.place as u64);
-            first & out::text(b" ran longer than its WCET")
-        }
-        _ => {
-            let first = out::text(b"at") & out::field(r.place as u64);
-            first & out::text(b" a core is idle while a stage of its type is ready")
-        }
+        21 => out::text(b"stage ") & quoted(t, of, r.place as u64),
+        22 => out::text(b"at") & out::field(r.place as u64),
+        _ => start(log, t, of, (r.place % 8192) as usize),
     }
+}
+
+fn said(log: &[u8], t: &[u8], of: Names, n: usize, r: Refusal) -> bool {
+    if r.number == 18 {
+        return malformed(log, n, r.place);
+    }
+    subject(log, t, of, r) & rule(r.number)
 }
 
 // The log is named by argument k, and the graph has n stages.

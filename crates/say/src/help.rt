@@ -7,6 +7,8 @@ pub fn page() -> bool {
 
   plan FILE              the sheet; for a board text also its path by names
   plan sheet FILE        the same
+  plan json FILE         the sheet and the graph as JSON, for other tools
+                         (docs/JSON.md)
   plan gains FILE [STAGE WCET]
                          what a rewrite of each stage would gain, in parts of
                          a tick and in whole ticks, the largest gain first
@@ -16,6 +18,10 @@ pub fn page() -> bool {
   plan replay FILE LOG   a recorded frame: its finish, and how long each stage
                          took, where the bounds cover it
   plan log FILE [TIMES]  the log of a run, as a board would record it
+  plan chart FILE [TIMES | LOG]
+                         a picture (SVG) of such a run, or of a recorded frame:
+                         which core ran which stage when (docs/PICTURES.md)
+  plan dot FILE          the graph, for graphviz to draw
   plan from-stg TEXT CORES KINDS
                          the graph file of a Standard Task Graph text, with
                          the cores of each type, and the type of each task or

@@ -2,6 +2,7 @@
 // or what was written.
 pub mod gains;
 pub mod help;
+pub mod json;
 pub mod names;
 pub mod out;
 pub mod run;
