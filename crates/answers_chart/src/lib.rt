@@ -1,5 +1,7 @@
 // `plan chart FILE [TIMES | LOG]`: a picture of a run, or of a recorded frame (docs/PICTURES.md). As in `answers`, g is the graph of an accepted file, t the bytes
 // that gave it, with the names that they have, and the answer is the exit status, which no contract can say.
+#![tactic(auto)]
+
 ghost use Rattle.graph.specs.Model.{AcceptedGraph};
 ghost use Rattle.recorded.specs.Log.{InForm};
 

@@ -1,6 +1,8 @@
 // `plan compare FILE FILE`: two sheets side by side, which of their numbers may be compared, and whether the second board is at least as good as the first in
 // every point, so that they are proved not to rise. As in `answers`, g and h are the graphs of accepted files, t and u the bytes that gave them, with the
 // names that they have, and the answer is the exit status, which no contract can say.
+#![tactic(auto)]
+
 mod called;
 mod side;
 

@@ -1,5 +1,7 @@
 // `plan dot FILE`: the graph as graphviz's dot takes it, with the path in thick lines and a colour for each type. As in `answers`, g is the graph of an accepted
 // file, t the bytes that gave it, with the names that they have, and the answer is the exit status, which no contract can say.
+#![tactic(auto)]
+
 mod colours;
 mod edges;
 mod nodes;

@@ -1,5 +1,7 @@
 // `plan enough FILE TYPE TICKS`: how many cores of a type are enough for NEW-B-1 to be within so many ticks, all else as declared. As in `answers`, t are the
 // bytes that gave the accepted file, with the names that they have, and the answer is the exit status, which no contract can say.
+#![tactic(auto)]
+
 use board::Names;
 use graph::{Answer, Refusal};
 use input::word;

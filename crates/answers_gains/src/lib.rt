@@ -1,5 +1,7 @@
 // `plan gains FILE [STAGE WCET]`: what a rewrite of each stage would gain, the largest gain first. As in `answers`, g is the graph of an accepted file, t
 // the bytes that gave it, with the names that they have, and the answer is the exit status, which no contract can say.
+#![tactic(auto)]
+
 ghost use Rattle.std.specs.Prelude.{◌≤◌};
 ghost use Rattle.graph.specs.Model.{AcceptedGraph};
 

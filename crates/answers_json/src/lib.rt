@@ -1,5 +1,7 @@
 // `plan json FILE`: what the sheet says, and the graph, as one JSON object for other tools (docs/JSON.md). As in `answers`, g is the graph of an accepted file, t
 // the bytes that gave it, with the names that they have, and the answer is the exit status, which no contract can say.
+#![tactic(auto)]
+
 mod figures;
 mod lists;
 

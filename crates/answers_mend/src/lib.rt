@@ -1,5 +1,7 @@
 // `plan mend FILE OUT`: a hand-edited file mended, and what was done, a line for each mend. The answer is the exit status, which rests on what the system took:
 // no contract can say it.
+#![tactic(auto)]
+
 mod lines;
 mod output;
 

@@ -37,7 +37,7 @@ pub fn replayed(t: &[u8], names: Names, g: Graph, file: &[u8]) -> u8 {
 }
 
 // The status, and where it is an answer the length of the log; else it has been said what is wrong.
-#[derive(Drop)]
+#[derive(Clone, Copy)]
 pub struct Made {
     pub status: u8,
     pub n: usize,

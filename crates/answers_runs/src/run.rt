@@ -8,7 +8,7 @@ use schedule::Played;
 pub(crate) const TIMES: usize = 3;
 
 // So many times, and where in their text each one starts and ends. A graph has 128 stages at most: of more times only that there are more matters.
-#[derive(Drop)]
+#[derive(Clone, Copy)]
 pub(crate) struct Times {
     pub n: usize,
     pub ticks: [u32; 129],

@@ -5,7 +5,7 @@ use faults::Fault;
 use graph::Graph;
 
 // The times, and the first fault.
-#[derive(Drop)]
+#[derive(Clone, Copy)]
 pub(crate) struct Timed {
     pub fault: Fault,
     pub times: Times,

@@ -1,5 +1,7 @@
 // `plan from-stg TEXT CORES KINDS`: the graph file of a Standard Task Graph text. `plan to-stg FILE`: such a text of an accepted file. The answer is the
 // exit status, which rests on what the system took: no contract can say it.
+#![tactic(auto)]
+
 mod numbers;
 mod reason;
 

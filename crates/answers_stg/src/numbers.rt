@@ -4,7 +4,7 @@ ghost use Rattle.std.specs.Prelude.{◌≤◌};
 use input::word;
 
 // So many numbers, and, where the row isn't fine, where the piece that is at fault starts and ends.
-#[derive(Drop)]
+#[derive(Clone, Copy)]
 pub(crate) struct Numbers {
     pub row: usize,
     pub start: usize,

@@ -1,5 +1,7 @@
 // The lines of a board text (docs/BOARD.md): where each type's and each stage's name stands, and the first thing wrong with them; and what the
 // lines say of each type and stage.
+#![tactic(auto)]
+
 ghost use Rattle.std.specs.Prelude.{◌≡◌, ◌<◌, length};
 ghost use Rattle.model.specs.Places.{table};
 ghost use Rattle.board.specs.Lists.{cores_at_of, kind_at, wcet_at_of};
@@ -8,7 +10,7 @@ ghost use Rattle.board.specs.Board.{nameless, with_kind_of, with_stage_of, kind_
 use faults::Fault;
 
 // So many types and stages, and where in the text each one's name starts and ends. A graph file has no names: 0 of both.
-#[derive(Drop)]
+#[derive(Clone, Copy)]
 pub struct Names {
     pub kinds: usize,
     pub stages: usize,
@@ -19,7 +21,7 @@ pub struct Names {
 }
 
 // The names of types and stages, in the order in which they stand; and the first fault.
-#[derive(Drop)]
+#[derive(Clone, Copy)]
 pub struct Board {
     pub fault: Fault,
     pub names: Names,

@@ -1,4 +1,6 @@
 // Whether one board is at least as good as another: the first point in which it is not. For accepted graphs.
+#![tactic(auto)]
+
 ghost use Rattle.std.specs.Prelude.{◌≡◌, not, ◌≤◌, eqb, get_or};
 ghost use Rattle.model.specs.Places.{any, first};
 ghost use Rattle.graph.specs.Model.{AcceptedGraph};
@@ -7,7 +9,7 @@ ghost use Rattle.boards.specs.Points.{lower, differ, is_new_of, new_point, edge_
 use graph::Graph;
 
 // What it is about, and which type, stage or edge it is.
-#[derive(Drop)]
+#[derive(Clone, Copy)]
 pub struct Point {
     pub row: u8,
     pub at: usize,

@@ -1,4 +1,6 @@
 // The bounds OLD-B and NEW-B-1, and the path that gives NEW-B-1. The two entries take the file's bytes.
+#![tactic(auto)]
+
 ghost use Rattle.std.specs.Prelude.{◌≡◌, ◌≤◌};
 ghost use Rattle.model.specs.Bounds.{volume, NewB1};
 ghost use Rattle.graph.specs.Model.{AcceptedGraph, as_model};
@@ -16,7 +18,7 @@ use weights::{Measure, weights};
 mod accepted; // accepted.rt: the bounds and the path of an accepted graph
 
 // The reader's answer, and the two bounds; `ticks` is NEW-B-1 in whole ticks. Beside a refusal all three are 0.
-#[derive(Drop)]
+#[derive(Clone, Copy)]
 pub struct Bounded {
     pub answer: Answer,
     pub old: Parts,
@@ -65,7 +67,7 @@ pub fn bounds(file: &[u8]) -> Bounded
     }
 }
 
-#[derive(Drop)]
+#[derive(Clone, Copy)]
 pub enum Pathed {
     // So many vertices, in the first places of the lent list.
     Vertices(usize),

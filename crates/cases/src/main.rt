@@ -1,3 +1,5 @@
+#![tactic(auto)]
+
 // Prints the sheet of each file that its arguments name, under a line with the name: document 01's limits and document 000's examples.
 fn one(k: usize) {
     let mut name = io::buffer();

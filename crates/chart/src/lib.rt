@@ -1,5 +1,7 @@
 // A picture of a log in form, as SVG: a row for each core, a bar for each stretch that a stage ran, and what the planner says of it. What it looks like is
 // in docs/PICTURES.md. Every function that writes answers whether the system took all of it: no contract can say that, or what was written.
+#![tactic(auto)]
+
 mod bare;
 mod bars;
 mod heading;
@@ -25,7 +27,7 @@ pub const TIMED: u8 = 1;
 pub const FRAME: u8 = 2;
 
 // What is said of a log: what it is of; what it is refused for, with number 0 where it isn't; and the bounds in whole ticks.
-#[derive(Drop)]
+#[derive(Clone, Copy)]
 pub struct Told {
     pub what: u8,
     pub refusal: Refusal,
@@ -36,7 +38,7 @@ pub struct Told {
 
 // What the bars are drawn by, but for the log: the refusal; so many ticks from left to right; the start of the stretch that is shown without a core, if any, and
 // the type that has a row more for it; the stages of the path; and how long each stage ran in all.
-#[derive(Drop)]
+#[derive(Clone, Copy)]
 pub(crate) struct Look {
     pub refusal: Refusal,
     pub span: u64,

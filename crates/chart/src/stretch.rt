@@ -4,7 +4,7 @@ ghost use Rattle.std.specs.Prelude.{◌≤◌, ◌<◌};
 use graph::Graph;
 
 // The record that starts it, its stage and that stage's type, its core, and from which instant it runs up to which.
-#[derive(Drop)]
+#[derive(Clone, Copy)]
 pub(crate) struct Stretch {
     pub start: usize,
     pub stage: usize,

@@ -1,5 +1,7 @@
 // Which of the ready vertices run: those that ran in the tick before, and then the lowest numbered others of each kind, as far as
 // its cores go. How many of a kind are ready and which comes first is read from the words masked by kind.
+#![tactic(auto)]
+
 ghost use Rattle.std.specs.Prelude.{◌≡◌, ◌&&◌, ℕ, ◌≤◌, ◌<◌, leb, get_or, length};
 ghost use Rattle.model.specs.Places.{count};
 ghost use Rattle.vset.specs.Members.{is_in, Members};

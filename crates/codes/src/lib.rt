@@ -1,5 +1,7 @@
 // The answers as C sees them: numbers, and structs laid out as C lays them out. An answer begins with `number` and `place`: number 0 is no
 // refusal.
+#![tactic(auto)]
+
 ghost use Rattle.std.specs.Prelude.{◌≡◌};
 ghost use Rattle.model.specs.Places.{bit};
 ghost use Rattle.graph.specs.Said.{of_answer};
@@ -20,7 +22,7 @@ use writer::Wrote;
 
 // The graph of a file; zero throughout beside a refusal.
 #[repr(C)]
-#[derive(Drop)]
+#[derive(Clone, Copy)]
 pub struct PlannerGraph {
     pub number: u32,
     pub place: u32,
@@ -29,7 +31,7 @@ pub struct PlannerGraph {
 
 // How many bytes were written, or vertices a path or a graph has; 0 beside a refusal.
 #[repr(C)]
-#[derive(Drop)]
+#[derive(Clone, Copy)]
 pub struct PlannerCount {
     pub number: u32,
     pub place: u32,
@@ -38,7 +40,7 @@ pub struct PlannerCount {
 
 // How many bytes the mended file and the list of what was done have; both 0 beside a refusal.
 #[repr(C)]
-#[derive(Drop)]
+#[derive(Clone, Copy)]
 pub struct PlannerMended {
     pub number: u32,
     pub place: u32,
@@ -48,7 +50,7 @@ pub struct PlannerMended {
 
 // Both bounds in parts of a tick, and NEW-B-1 in whole ticks; 0 beside a refusal.
 #[repr(C)]
-#[derive(Drop)]
+#[derive(Clone, Copy)]
 pub struct PlannerBounds {
     pub number: u32,
     pub place: u32,
@@ -59,7 +61,7 @@ pub struct PlannerBounds {
 
 // NEW-B-2 in parts of a tick; 0 beside a refusal.
 #[repr(C)]
-#[derive(Drop)]
+#[derive(Clone, Copy)]
 pub struct PlannerSecond {
     pub number: u32,
     pub place: u32,
@@ -68,7 +70,7 @@ pub struct PlannerSecond {
 
 // The smallest number of cores that is enough; 0 beside a refusal.
 #[repr(C)]
-#[derive(Drop)]
+#[derive(Clone, Copy)]
 pub struct PlannerEnough {
     pub number: u32,
     pub place: u32,
@@ -77,7 +79,7 @@ pub struct PlannerEnough {
 
 // A run record at instant 0; zero and unmarked throughout beside a refusal.
 #[repr(C)]
-#[derive(Drop)]
+#[derive(Clone, Copy)]
 pub struct PlannerRun {
     pub number: u32,
     pub place: u32,
@@ -86,7 +88,7 @@ pub struct PlannerRun {
 
 // What a tick reports: `moved` is 1 where the run moved, 0 where it was done or the tick was refused.
 #[repr(C)]
-#[derive(Drop)]
+#[derive(Clone, Copy)]
 pub struct PlannerMoved {
     pub number: u32,
     pub place: u32,
@@ -95,7 +97,7 @@ pub struct PlannerMoved {
 
 // The same, and the record; the one that was given beside a refusal.
 #[repr(C)]
-#[derive(Drop)]
+#[derive(Clone, Copy)]
 pub struct PlannerTick {
     pub number: u32,
     pub place: u32,
@@ -105,7 +107,7 @@ pub struct PlannerTick {
 
 // The finish of a whole run, or of a log; 0 beside a refusal.
 #[repr(C)]
-#[derive(Drop)]
+#[derive(Clone, Copy)]
 pub struct PlannerFinish {
     pub number: u32,
     pub place: u32,
@@ -114,7 +116,7 @@ pub struct PlannerFinish {
 
 // Whether a run ends by a tick, 1 or 0, and how many ticks of it were played; both 0 beside a refusal.
 #[repr(C)]
-#[derive(Drop)]
+#[derive(Clone, Copy)]
 pub struct PlannerLate {
     pub number: u32,
     pub place: u32,

@@ -3,6 +3,8 @@
 // A vertex is taken up once nobody who leads to it is left: at first those that nobody leads to. Whoever is taken up tells its successors,
 // so that each edge is looked at once. On a cycle everyone waits for another, also where no source reaches it: so there is a cycle just
 // where somebody is never taken up. Where nobody is left, the order in which they were taken up goes along the edges.
+#![tactic(auto)]
+
 ghost use Rattle.std.specs.Prelude.{◌≡◌, false, ℕ, ◌≤◌, ◌<◌, get_or, length};
 ghost use Rattle.model.specs.Cycle as model;
 ghost use Rattle.graph.specs.Model.{as_model};

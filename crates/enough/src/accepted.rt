@@ -40,7 +40,7 @@ fn meets<'a>(
 }
 
 // The smallest number that is enough, or 17 where none is, lies from low to high.
-#[derive(Drop)]
+#[derive(Clone, Copy)]
 struct Span {
     low: u8,
     high: u8,

@@ -1,5 +1,7 @@
 // How many cores are enough: the smallest number of cores of one type, from 1 to 16, with which NEW-B-1's whole ticks are at or below a limit, all
 // else as declared. The entry takes the file's bytes.
+#![tactic(auto)]
+
 ghost use Rattle.std.specs.Prelude.{◌≡◌};
 ghost use Rattle.graph.specs.declared.Answer.TheVariants.{Refused};
 ghost use Rattle.enough.specs.Answers.{EnoughOf};
@@ -9,7 +11,7 @@ use graph::{Answer, Refusal};
 mod accepted; // accepted.rt: of an accepted graph
 
 // The answer, and the smallest number of cores that is enough. Beside a refusal it is 0.
-#[derive(Drop)]
+#[derive(Clone, Copy)]
 pub struct Fewest {
     pub answer: Answer,
     pub cores: u8,

@@ -1,4 +1,6 @@
 // What a text gets wrong (docs/BOARD.md): the rows that say it, and the tests for a text as such, its numbers and its names.
+#![tactic(auto)]
+
 ghost use Rattle.std.specs.Prelude.{◌≡◌, ◌-◌, ltb};
 ghost use Rattle.texts.specs.Text.{until};
 ghost use Rattle.faults.specs.Faults.{line_fault, text_fault, number_fault, name_fault, alone_fault, stage_fault};
@@ -57,7 +59,7 @@ pub const STAGES_NONE: usize = 24;
 pub const ABSENT: usize = 25;
 
 // The row that says it, and the place in the text of the word that it is about.
-#[derive(Drop)]
+#[derive(Clone, Copy)]
 pub struct Fault {
     pub row: usize,
     pub at: usize,

@@ -1,5 +1,7 @@
 // The records of a log: number 18, and what a log in form says of each vertex, its total and its last record. Records are read as those of
 // a graph file.
+#![tactic(auto)]
+
 ghost use Rattle.std.specs.Prelude.{◌≡◌, false, not, ◌&&◌, ◌||◌, List, ℕ, ◌+◌, ◌*◌, ◌<◌, ◌≤◌, eqb};
 ghost use Rattle.model.specs.Places.{pick, bit};
 ghost use Rattle.graph.specs.File.{records};
@@ -12,21 +14,21 @@ use graph::{Answer, Refusal};
 use vset::Vset;
 
 // What a pass over the records has met: who runs, and the lowest key that the next record may have.
-#[derive(Drop)]
+#[derive(Clone, Copy)]
 pub struct Met {
     pub on: Vset,
     pub least: usize,
 }
 
 // The first record at fault, or as many as there are, and who runs before it.
-#[derive(Drop)]
+#[derive(Clone, Copy)]
 pub struct Found {
     pub first: usize,
     pub on: Vset,
 }
 
 // Each vertex's total, and one more than its last record: 0 where it has none.
-#[derive(Drop)]
+#[derive(Clone, Copy)]
 pub struct Spent {
     pub totals: [u32; 128],
     pub lasts: [u16; 128],

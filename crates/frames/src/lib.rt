@@ -1,6 +1,8 @@
 // Numbers 19, 20 and 22 of a log in form, in one pass over its records. What a pass keeps from record to record are sets: who runs, who
 // has ticks left, who stands behind one that has, and who is of a kind with no idle core. A vertex has ticks left as long as it has records
 // to come; after its last one it tells its successors, so that each edge is looked at once.
+#![tactic(auto)]
+
 ghost use Rattle.std.specs.Prelude.{◌≡◌, true, false, not, ◌&&◌, ◌+◌, ◌*◌, ◌≤◌, ◌<◌, eqb, ltb, get_or, length};
 ghost use Rattle.model.specs.Places.{pick, bit, any};
 ghost use Rattle.graph.specs.declared.Graph.{Graph};
@@ -16,7 +18,7 @@ ghost use Rattle.frames.specs.Frames.{Lists, LentOf, Framed, idles, MovedBy, Fau
 
 use vset::Vset;
 
-#[derive(Drop)]
+#[derive(Clone, Copy)]
 pub struct Frame {
     pub on: Vset,
     pub busy: Vset,
@@ -25,21 +27,21 @@ pub struct Frame {
 }
 
 // Who has ticks left, and who stands behind one that has.
-#[derive(Drop)]
+#[derive(Clone, Copy)]
 pub struct Rest {
     pub busy: Vset,
     pub behind: Vset,
 }
 
 // The frame after one record more, and whether that record is a start of number 20.
-#[derive(Drop)]
+#[derive(Clone, Copy)]
 pub struct Moved {
     pub frame: Frame,
     pub crowded: bool,
 }
 
 // The first starts of 19 and of 20, or as many as there are records; the first instant of 22, or the last of all.
-#[derive(Drop)]
+#[derive(Clone, Copy)]
 pub struct Faults {
     pub early: usize,
     pub crowded: usize,
@@ -47,7 +49,7 @@ pub struct Faults {
 }
 
 // A pass between two records: how it stands, what is found, and the instant of the record before.
-#[derive(Drop)]
+#[derive(Clone, Copy)]
 pub struct Pass {
     pub frame: Frame,
     pub faults: Faults,

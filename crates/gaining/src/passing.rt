@@ -14,7 +14,7 @@ pub(crate) fn larger(a: u64, b: u64) -> u64
 }
 
 // The largest of some sums, and the vertex that it is of.
-#[derive(Drop)]
+#[derive(Clone, Copy)]
 pub struct Top {
     pub most: u64,
     pub vertex: usize,

@@ -1,5 +1,7 @@
 // What a rewrite would gain: for each vertex NEW-B-1 less NEW-B-1 of the same graph with that vertex's WCET set to 0. The two entries take the
 // file's bytes; one of them first alters one WCET.
+#![tactic(auto)]
+
 ghost use Rattle.graph.specs.Model.{AcceptedGraph, as_model};
 ghost use Rattle.gaining.specs.Gaining.{GainsIn};
 ghost use Rattle.gains.specs.Answers.{GainsOf, AlteredOf};
@@ -10,7 +12,7 @@ mod accepted; // accepted.rt: the gains of an accepted graph
 mod lent; // lent.rt: the gains, handed over to the caller's list
 
 // How many gains stand in the first places of the lent list, or what the answer says no with.
-#[derive(Drop)]
+#[derive(Clone, Copy)]
 pub enum Gained {
     Vertices(usize),
     Refused(Refusal),

@@ -1,13 +1,15 @@
 // The graph of a file, and the answers that every entry of the planner shares. The reader that makes one is `reader`.
 
+#![tactic(auto)]
+
 // What an answer says no with: document 01's number, and the place of the record, vertex or instant at fault.
-#[derive(Drop)]
+#[derive(Clone, Copy)]
 pub struct Refusal {
     pub number: u32,
     pub place: u32,
 }
 
-#[derive(Drop)]
+#[derive(Clone, Copy)]
 pub enum Answer {
     Accepted,
     Refused(Refusal),
@@ -15,7 +17,7 @@ pub enum Answer {
 
 // Counts and lists of a graph; unused places are zero. An edge is from * 256 + to.
 #[repr(C)]
-#[derive(Drop)]
+#[derive(Clone, Copy)]
 pub struct Graph {
     pub kinds: usize,
     pub n: usize,
@@ -27,7 +29,7 @@ pub struct Graph {
 }
 
 // The reader's answer and graph; beside a refusal the graph is zero throughout.
-#[derive(Drop)]
+#[derive(Clone, Copy)]
 pub struct Taken {
     pub answer: Answer,
     pub graph: Graph,

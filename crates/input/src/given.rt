@@ -8,7 +8,7 @@ use graph::Refusal;
 use writer::Wrote;
 
 // The status, and where it is an answer the file's length and the names; else it has been said what is wrong.
-#[derive(Drop)]
+#[derive(Clone, Copy)]
 pub struct Given {
     pub status: u8,
     pub n: usize,

@@ -1,5 +1,7 @@
 // What the arguments of the command name, read whole, and the graph file of it; trouble with it, and what a board text gets wrong, is said. What is
 // read, whether it can be, and whether what is said is taken, is the system's to say: no contract can.
+#![tactic(auto)]
+
 pub mod given;
 mod net;
 pub mod word;
@@ -12,7 +14,7 @@ pub const NO: u8 = 1;
 pub const TROUBLE: u8 = 2;
 
 // Whether it could be read, and how many bytes it has: the room's length where it has that many or more.
-#[derive(Drop)]
+#[derive(Clone, Copy)]
 pub struct Input {
     pub good: bool,
     pub n: usize,

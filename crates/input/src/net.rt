@@ -6,7 +6,7 @@ use faults::Fault;
 use writer::Wrote;
 
 // So many edges, in ascending order, and the first fault.
-#[derive(Drop)]
+#[derive(Clone, Copy)]
 pub(crate) struct Net {
     pub fault: Fault,
     pub edges: usize,
@@ -14,7 +14,7 @@ pub(crate) struct Net {
 }
 
 // So many waits so far, and the first fault.
-#[derive(Drop)]
+#[derive(Clone, Copy)]
 struct Waited {
     fault: Fault,
     n: usize,

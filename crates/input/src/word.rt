@@ -19,7 +19,7 @@ pub fn number(w: &[u8]) -> u32 {
 }
 
 // The row of what is wrong, and where nothing is the number.
-#[derive(Drop)]
+#[derive(Clone, Copy)]
 pub struct Meant {
     pub row: usize,
     pub number: u32,

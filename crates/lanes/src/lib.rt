@@ -1,5 +1,7 @@
 // Which core each stretch of a log in form runs on, in one pass over its records. What the pass keeps are the vertices that have a core, and
 // the core that each got last. Whether a vertex that stops runs on is looked up among the records of the same instant.
+#![tactic(auto)]
+
 ghost use Rattle.std.specs.Prelude.{◌≡◌, not, ◌++◌, ℕ, ◌+◌, ◌≤◌, ◌<◌, length, get_or, drop};
 ghost use Rattle.model.specs.Places.{first};
 ghost use Rattle.graph.specs.File.{records};

@@ -1,5 +1,7 @@
 // Late or not: whether the list schedule with the given times ends by tick d. Where NEW-B-1 is at most d it does whatever the times are,
 // and nothing is played; otherwise the run is played by leaps, and no further than d.
+#![tactic(auto)]
+
 ghost use Rattle.std.specs.Prelude.{◌≡◌, min, leb};
 ghost use Rattle.graph.specs.declared.Graph.{Graph};
 ghost use Rattle.graph.specs.Model.{as_model};
@@ -18,7 +20,7 @@ use units::Ticks;
 use weights::volume::volume;
 
 // The answer, whether the run ends by tick d, and how many ticks of it were played. Beside a refusal: no, and 0.
-#[derive(Drop)]
+#[derive(Clone, Copy)]
 pub struct Lateness {
     pub answer: Answer,
     pub yes: bool,

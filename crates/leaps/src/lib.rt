@@ -2,6 +2,8 @@
 // once. The cost does not grow with the execution times: each leap ends the ticks of one vertex at least, but for a last one that is cut
 // short. The graph's lists are lent one by one, since a graph by value is copied on its way; what is required and ensured is said of the
 // graph that they are.
+#![tactic(auto)]
+
 ghost use Rattle.std.specs.Prelude.{◌≡◌, ◌<◌, length, replicate};
 ghost use Rattle.model.specs.Places.{count};
 ghost use Rattle.graph.specs.declared.Graph.{Graph};
@@ -19,7 +21,7 @@ use vset::Vset;
 // that have ticks left, and those that stand behind them; an unfinished vertex is in either of the last two. Three tables go with it,
 // and a leap changes them where they stand: what is left of each vertex and how many unfinished predecessors it waits for, which are those
 // of the run record, and the finish instants.
-#[derive(Drop)]
+#[derive(Clone, Copy)]
 pub struct Moment {
     pub instant: u64,
     pub ran: Vset,
@@ -29,7 +31,7 @@ pub struct Moment {
 }
 
 // The end of a run: the finish, and the finish instants.
-#[derive(Drop)]
+#[derive(Clone, Copy)]
 pub struct Ended {
     pub instant: u64,
     pub finishes: [u32; 128],

@@ -1,4 +1,6 @@
 // A list that a caller lends, and what is handed over in it.
+#![tactic(auto)]
+
 ghost use Rattle.std.specs.Prelude.{◌≡◌, ◌++◌, ◌≤◌, length, get_or, drop};
 ghost use Rattle.model.specs.Places.{table};
 

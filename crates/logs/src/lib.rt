@@ -1,5 +1,7 @@
 // The log of a run, for callers: the list schedule with the given times, as records of starts and stops. A vertex that has a time runs in the
 // ticks before its finish instant, as many as its time says, so that the finish instants of a run tell every record.
+#![tactic(auto)]
+
 ghost use Rattle.std.specs.Prelude.{◌≡◌, length};
 ghost use Rattle.model.specs.Places.{table};
 ghost use Rattle.graph.specs.Model.{AcceptedGraph};

@@ -1,4 +1,6 @@
 // Mends a hand-edited file, and lists what was done.
+#![tactic(auto)]
+
 ghost use Rattle.std.specs.Prelude.{◌≡◌, ◌*◌, ◌≤◌, length};
 ghost use Rattle.graph.specs.File.{records};
 ghost use Rattle.graph.specs.declared.Answer.TheVariants as answers;

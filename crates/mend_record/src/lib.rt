@@ -1,5 +1,7 @@
 // Mends one record: whether a byte of it that must be 0 isn't, the record with these bytes cleared, laying it over a buffer, and noting what
 // is done to it.
+#![tactic(auto)]
+
 ghost use Rattle.std.specs.Prelude.{◌≡◌, true, not, ◌&&◌, ◌||◌, ◌+◌, ◌*◌, ◌<◌, ◌≤◌, eqb, ltb, length};
 ghost use Rattle.model.specs.Places.{pick, bit, table};
 ghost use Rattle.graph.specs.File.{records};
@@ -56,7 +58,7 @@ pub fn put(buffer: &mut [u8], at: usize, r: &[u8; 8], on: bool)
 }
 
 // What is done to a record.
-#[derive(Drop)]
+#[derive(Clone, Copy)]
 pub struct Fate {
     pub stray: bool,
     pub looped: bool,

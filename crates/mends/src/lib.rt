@@ -1,14 +1,16 @@
 // What `mend` answers. What is mended, and what is proved of it, are definitions and laws: there is no function here.
+#![tactic(auto)]
+
 use graph::Refusal;
 
 // How many bytes the mended file and the list of mends have.
-#[derive(Drop)]
+#[derive(Clone, Copy)]
 pub struct Sizes {
     pub file: usize,
     pub list: usize,
 }
 
-#[derive(Drop)]
+#[derive(Clone, Copy)]
 pub enum Mended {
     Lengths(Sizes),
     Refused(Refusal),

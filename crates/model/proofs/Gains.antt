@@ -77,6 +77,7 @@ module _ {G : Graph} (R : Ranked G) (f : ℕ → ℕ) (v : ℕ) where
   -- a path has v once at most
   once : (p : List ℕ) → ToSink G p → along f p ≤ along (without f v) p + f v
   unfolding along
+  once [] x = elim x [ ]
   once (u ∷ []) (end l s) = go (ℕ_discrete u v)
     where
       go : Dec (u ≡ v) → f u + 0 ≤ without f v u + 0 + f v

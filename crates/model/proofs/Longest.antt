@@ -251,11 +251,24 @@ new_b_1_unique {G} B B' a b = a.is ∙ (ap (λ (x : ℕ). x + volume G) (greates
 pub path_exists : {G : Graph} → WellFormed G → Acyclic G → (p : List ℕ) × ThePath G p
 path_exists {G} W A = best-complete W (ranked W A) (scaled G)
 
+-- what comes before a list stands so at their first vertices: a smaller one, or the same one and then the rest
+first_or_later : {u v : ℕ} {p q : List ℕ} → Before (u ∷ p) (v ∷ q) → (u < v) ⊎ ((u ≡ v) × Before p q)
+first_or_later (here l) = inl l
+first_or_later (later a) = inr (refl, a)
+
+apart : (p q : List ℕ) → Before p q → Before q p → ⊥
+apart [] q a b = elim a [ ]
+apart (u ∷ p) [] a b = elim a [ ]
+apart (u ∷ p) (v ∷ q) a b = go (apart p q) (first_or_later a) (first_or_later b)
+  where
+    go : (Before p q → Before q p → ⊥) → (u < v) ⊎ ((u ≡ v) × Before p q) → (v < u) ⊎ ((v ≡ u) × Before q p) → ⊥
+    go rest (inl l) (inl m) = omega arith
+    go rest (inl l) (inr e) = omega arith
+    go rest (inr e) (inl m) = omega arith
+    go rest (inr e) (inr f) = rest e.1 f.1
+
 pub before-not-both : {p q : List ℕ} → Before p q → Before q p → ⊥
-before-not-both (here l) (here m) = omega arith
-before-not-both (here l) (later b) = omega arith
-before-not-both (later a) (here m) = omega arith
-before-not-both (later a) (later b) = before-not-both a b
+before-not-both {p} {q} a b = apart p q a b
 
 pub path_unique : {G : Graph} {p q : List ℕ} → ThePath G p → ThePath G q → p ≡ q
 path_unique {G} {p} {q} a b =

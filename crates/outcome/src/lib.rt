@@ -1,1 +1,3 @@
 // No code: what it is for a contract to leave one outcome. See specs/.
+
+#![tactic(auto)]

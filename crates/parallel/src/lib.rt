@@ -1,4 +1,6 @@
 // Who is parallel to whom, as a table with a row for each vertex: a set of vertices, in two words.
+#![tactic(auto)]
+
 ghost use Rattle.std.specs.Prelude.{◌≡◌, [], not, ◌&&◌, ◌||◌, ◌<◌, eqb};
 ghost use Rattle.graph.specs.declared.Graph.{Graph};
 ghost use Rattle.graph.specs.Model.{as_model};

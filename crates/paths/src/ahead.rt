@@ -9,7 +9,7 @@ ghost use Rattle.paths.specs.Along.{Follows, Visitable, Comparable, Foremost};
 use starts::to;
 
 // What lies ahead of each vertex, and the source where the longest path begins.
-#[derive(Drop)]
+#[derive(Clone, Copy)]
 pub struct Sums {
     pub ahead: [u64; 128],
     pub head: usize,

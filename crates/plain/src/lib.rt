@@ -1,5 +1,7 @@
 // A file as it should be is passed once: its types, its vertices and its edges one after another, each record seen by itself. Where this
 // reaches the end, no number up to 10 applies; where it does not, whoever asks has to look for the number.
+#![tactic(auto)]
+
 ghost use Rattle.std.specs.Prelude.{◌≡◌, not, ◌+◌, ◌-◌, ◌<◌, ◌≤◌, min};
 ghost use Rattle.model.specs.Places.{first};
 ghost use Rattle.graph.specs.File.{records};

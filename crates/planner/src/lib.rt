@@ -1,5 +1,7 @@
 // What C and Rust call: every entry of the planner, its answer as `codes` lays it out for C. A list is a pointer and then a length.
 // include/planner.h declares all of it.
+#![tactic(auto)]
+
 ghost use Rattle.std.specs.Prelude.{◌≡◌, length};
 ghost use Rattle.graph.specs.Judge.{read_of};
 ghost use Rattle.writer.specs.Lists.{lists};
@@ -159,7 +161,7 @@ pub extern "C" fn planner_mend(file: &[u8], out: &mut [u8], list: &mut [u8]) -> 
 }
 
 // What the entry below stores, and what it hands back.
-#[derive(Drop)]
+#[derive(Clone, Copy)]
 pub struct Stepped {
     pub said: PlannerMoved,
     pub run: Run,

@@ -1,6 +1,8 @@
 // Lines of numbers to standard output. No contract can speak of what a call of the operating system wrote: what is printed is compared
 // with what it should be by the tests. A list goes by way of a buffer that is written when it is full, so that it is one call.
 
+#![tactic(auto)]
+
 pub fn text(word: &[u8]) {
     io::write_all(1, word);
 }

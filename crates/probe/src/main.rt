@@ -1,5 +1,7 @@
 // Drives every entry of the planner from one standard input, for tests in other languages. A request is a letter, 4 bytes of
 // payload length, low byte first, and the payload; each is answered by one line, at once.
+#![tactic(auto)]
+
 ghost use Rattle.std.specs.Prelude.{◌≤◌};
 
 fn smaller(a: u64, b: usize) -> usize

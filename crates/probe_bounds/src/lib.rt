@@ -1,4 +1,6 @@
 // The letters B, N, P and C of the probe: the bounds of a file; its second bound; its path; how many cores are enough. Each takes a request's payload and prints the line that answers it.
+#![tactic(auto)]
+
 use bounds::{Bounded, Pathed};
 use enough::Fewest;
 use graph::Answer;

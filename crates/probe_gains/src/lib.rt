@@ -1,5 +1,7 @@
 // The letters G and A of the probe: the gains of a file; the same with one WCET altered. Each takes a request's payload and prints the line that
 // answers it.
+#![tactic(auto)]
+
 use gains::Gained;
 use wire::PRESET_LONG;
 

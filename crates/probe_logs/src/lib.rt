@@ -1,4 +1,6 @@
 // The letters L and O of the probe: a log replayed, and the log of a run. Each takes a request's payload and prints the line that answers it.
+#![tactic(auto)]
+
 ghost use Rattle.std.specs.Prelude.{◌≤◌};
 
 use replay::Replayed;

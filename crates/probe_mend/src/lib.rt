@@ -1,4 +1,6 @@
 // The letter M of the probe: a file mended. It takes a request's payload and prints the line that answers it.
+#![tactic(auto)]
+
 ghost use Rattle.std.specs.Prelude.{◌≤◌};
 
 use mends::Mended;

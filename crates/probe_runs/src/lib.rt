@@ -1,6 +1,8 @@
 // The letters S, T, I, X and D of the probe: a run started; one tick of a record, by value and in place; a whole run; whether a run ends by a
 // tick. Each takes a request's payload and prints the line that answers it. A run record travels as 672 bytes: n (8), instant (8), 128
 // remainders (4 each), two words (8 each), 128 numbers of unfinished predecessors (a byte each).
+#![tactic(auto)]
+
 ghost use Rattle.std.specs.Prelude.{◌≡◌, ◌≤◌, length};
 
 use graph::Answer;

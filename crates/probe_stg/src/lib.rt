@@ -1,4 +1,6 @@
 // The letters U and V of the probe: Standard Task Graph text read, and written. Each takes a request's payload and prints the line that answers it.
+#![tactic(auto)]
+
 ghost use Rattle.std.specs.Prelude.{◌≤◌};
 
 use wire::PRESET;

@@ -1,4 +1,6 @@
 // The reader: a file's graph, or the lowest number that says no with its first place.
+#![tactic(auto)]
+
 ghost use Rattle.std.specs.Prelude.{◌≡◌, ◌≤◌, length, replicate};
 ghost use Rattle.graph.specs.File.{no_graph_of};
 ghost use Rattle.graph.specs.Judge.{judge_from, read_of};
@@ -16,7 +18,7 @@ use graph::{Answer, Graph, Refusal, Taken};
 use records::Counts;
 
 // The answer, and how many types, vertices and edges there are. The lists are lent: whoever needs them has the tables.
-#[derive(Drop)]
+#[derive(Clone, Copy)]
 pub struct Header {
     pub answer: Answer,
     pub kinds: usize,

@@ -85,7 +85,7 @@ fn by_number(file: &[u8], c: Counts) -> Refusal
 }
 
 // The number that was found, and how many records there are of each kind.
-#[derive(Drop)]
+#[derive(Clone, Copy)]
 pub struct Judged {
     pub refusal: Refusal,
     pub counts: Counts,

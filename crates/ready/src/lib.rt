@@ -1,4 +1,6 @@
 // Which vertices have ticks left.
+#![tactic(auto)]
+
 ghost use Rattle.vset.specs.Members.{Members};
 ghost use Rattle.ready.specs.Ready.{some_left};
 

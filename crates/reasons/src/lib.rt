@@ -1,4 +1,6 @@
 // What a text or a log gets wrong and which line of a board text a refusal is about, and how it is said. Whether it could be written no contract can say.
+#![tactic(auto)]
+
 pub mod fault;
 pub mod log;
 

@@ -1,4 +1,6 @@
 // The records of a graph file, and how many there are of each kind.
+#![tactic(auto)]
+
 ghost use Rattle.std.specs.Prelude.{◌≡◌, List, ℕ, ◌+◌, ◌<◌, ◌≤◌, max};
 ghost use Rattle.model.specs.Places.{bit};
 ghost use Rattle.graph.specs.File.{records, byte_at, word_at, key_at, order};
@@ -57,7 +59,7 @@ fn one(b: bool) -> usize
 }
 
 // What a pass over the records has met: how many of each kind, and the latest order.
-#[derive(Drop)]
+#[derive(Clone, Copy)]
 pub struct Passed {
     pub kinds: usize,
     pub vertices: usize,
@@ -98,7 +100,7 @@ fn larger(x: usize, y: usize) -> usize
 }
 
 // How many records there are of each kind.
-#[derive(Drop)]
+#[derive(Clone, Copy)]
 pub struct Counts {
     pub kinds: usize,
     pub n: usize,

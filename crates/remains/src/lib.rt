@@ -1,4 +1,6 @@
 // The ticks remaining of each vertex.
+#![tactic(auto)]
+
 ghost use Rattle.std.specs.Prelude.{◌≡◌, true, not, ◌&&◌, ℕ, ◌+◌, ◌≤◌, ◌<◌, min, eqb, leb, get_or, length};
 ghost use Rattle.model.specs.Places.{pick, every, sum, table};
 ghost use Rattle.vset.specs.Members.{is_in, Members};
@@ -38,7 +40,7 @@ pub fn least(left: &[u32; 128], on: Vset, top: u32) -> u32
 }
 
 // Of those that ran: who has no ticks left, and the fewest that another has left, or TOP where there is no other.
-#[derive(Drop)]
+#[derive(Clone, Copy)]
 pub struct Spent {
     pub over: Vset,
     pub least: u32,

@@ -1,5 +1,7 @@
 // A recorded frame: the board's log of which vertex ran when, judged against the graph. A log is passed three times, for 18, for the totals
 // and for 19, 20 and 22; the cost grows with its records, not with the instants that they name, and each edge is looked at once.
+#![tactic(auto)]
+
 ghost use Rattle.std.specs.Prelude.{◌≡◌, ◌≤◌, ◌<◌, length};
 ghost use Rattle.model.specs.Places.{first, table};
 ghost use Rattle.graph.specs.Model.{as_model, AcceptedGraph};
@@ -20,14 +22,14 @@ use graph::{Answer, Refusal};
 use reader::Header;
 use units::Ticks;
 
-#[derive(Drop)]
+#[derive(Clone, Copy)]
 pub enum Replayed {
     Finish(Ticks),
     Refused(Refusal),
 }
 
 // The answer to a log, and the times of the vertices where it is accepted.
-#[derive(Drop)]
+#[derive(Clone, Copy)]
 pub struct Judged {
     pub answer: Answer,
     pub totals: [u32; 128],

@@ -1,5 +1,7 @@
 // Predecessors and ancestors as rows: two tables with a row of two words for each vertex, a bit for each predecessor and a bit for each
 // ancestor. The tables are locals. They are lent to be filled, and lent to whoever reads them row by row: a copy would be 2 KB of stack.
+#![tactic(auto)]
+
 ghost use Rattle.std.specs.Prelude.{◌≡◌, ◌&&◌, ℕ, ◌≤◌, ◌<◌};
 ghost use Rattle.model.specs.Places.{bit, count, padded};
 ghost use Rattle.graph.specs.declared.Graph.{Graph};

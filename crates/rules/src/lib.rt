@@ -2,6 +2,8 @@
 //
 // The table speaks of records before the one at fault: "after a vertex or edge", "its place among its kind". A scan carries
 // what these need of the records that it passed, so that each test looks at one record, or two.
+#![tactic(auto)]
+
 ghost use Rattle.std.specs.Prelude.{◌≡◌, ◌<◌};
 ghost use Rattle.model.specs.Places.{count, largest};
 ghost use Rattle.graph.specs.File.{records, order, is_order, many};

@@ -1,5 +1,7 @@
 // What the command `plan` says on standard output. Every function answers whether the system took all that it wrote: no contract can say that,
 // or what was written.
+#![tactic(auto)]
+
 pub mod gains;
 pub mod help;
 pub mod json;

@@ -1,5 +1,7 @@
 // The list schedule for callers: a run started, moved on by one tick, or run whole. Every entry takes the graph as its file's bytes
 // and says no with 1 to 11 as the reader does, before any other number.
+#![tactic(auto)]
+
 ghost use Rattle.std.specs.Prelude.{◌≡◌, length};
 ghost use Rattle.graph.specs.declared.Graph.{Graph};
 ghost use Rattle.graph.specs.Model.{AcceptedGraph};
@@ -21,13 +23,13 @@ use units::Ticks;
 use vset::Vset;
 
 // The answer, and the record at instant 0; beside a refusal it is zero and unmarked throughout.
-#[derive(Drop)]
+#[derive(Clone, Copy)]
 pub struct Started {
     pub answer: Answer,
     pub run: Run,
 }
 
-#[derive(Drop)]
+#[derive(Clone, Copy)]
 pub enum Played {
     Finish(Ticks),
     Refused(Refusal),

@@ -1,5 +1,7 @@
 // NEW-B-2, the second bound: for each complete path the WCETs along it, and for each type its share of those of the vertices parallel to the path;
 // the largest of these. A graph of more than 4,096 complete paths has none. The entry takes the file's bytes.
+#![tactic(auto)]
+
 ghost use Rattle.std.specs.Prelude.{◌≡◌};
 ghost use Rattle.graph.specs.Model.{AcceptedGraph, as_model};
 ghost use Rattle.graph.specs.declared.Answer.TheVariants.{Refused};
@@ -11,7 +13,7 @@ use units::Parts;
 mod accepted; // accepted.rt: the second bound of an accepted graph
 
 // The answer, and NEW-B-2. Beside a refusal it is 0.
-#[derive(Drop)]
+#[derive(Clone, Copy)]
 pub struct Seconded {
     pub answer: Answer,
     pub parts: Parts,

@@ -1,4 +1,6 @@
 // A table with a set for each of the numbers below 128: a row of two words.
+#![tactic(auto)]
+
 ghost use Rattle.std.specs.Prelude.{◌≡◌, ◌<◌, set};
 ghost use Rattle.sets.specs.Sets.{row_of, words_of, joined};
 

@@ -1,3 +1,5 @@
+#![tactic(auto)]
+
 // Reads a graph file from standard input and prints its sheet. No file has more than 9,296 bytes: of a longer input only that it is longer matters.
 fn main() {
     let mut buf = [0u8; 9304];

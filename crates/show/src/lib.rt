@@ -1,4 +1,6 @@
 // The sheet of a file, written to standard output. Only programs are above it.
+#![tactic(auto)]
+
 ghost use Rattle.std.specs.Prelude.{◌≡◌, ◌≤◌};
 ghost use Rattle.graph.specs.Judge.{read_of};
 ghost use Rattle.graph.specs.Model.{AcceptedGraph};

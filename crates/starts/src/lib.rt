@@ -1,5 +1,7 @@
 // The edge list: the two ends of an edge, and where each vertex's edges begin. Edges ascend by the vertex that they come from, so that the edges of a vertex stand
 // together: those of u go from its start up to that of u + 1.
+#![tactic(auto)]
+
 ghost use Rattle.std.specs.Prelude.{◌≡◌, ◌/◌, ◌%◌, ◌≤◌};
 ghost use Rattle.model.specs.Places.{table};
 ghost use Rattle.starts.specs.Starts.{start_in};

@@ -3,7 +3,7 @@ ghost use Rattle.std.specs.Prelude.{◌≤◌, length};
 ghost use Rattle.stg.specs.Rows.{Commented};
 
 // The place of the next line.
-#[derive(Drop)]
+#[derive(Clone, Copy)]
 pub enum Comment {
     Next(usize),
     Fault,

@@ -1,4 +1,6 @@
 // Standard Task Graph text: the reader.
+#![tactic(auto)]
+
 ghost use Rattle.std.specs.Prelude.{◌≡◌, ◌≤◌, length, replicate};
 ghost use Rattle.stg_text.specs.Answers.{read_stg_of, read_room};
 ghost use Rattle.stg.specs.Lines.{Gathered};
@@ -14,7 +16,7 @@ use graph::Refusal;
 use writer::Wrote;
 
 // How many tasks and edges a text has, beside its lists; or the first line at fault.
-#[derive(Drop)]
+#[derive(Clone, Copy)]
 pub struct Found {
     pub good: bool,
     pub line: usize,

@@ -9,7 +9,7 @@ use crate::task::Task;
 use crate::{after, comment, row, task};
 
 // Whether the tasks are read, and the place past their lines; or the line at fault.
-#[derive(Drop)]
+#[derive(Clone, Copy)]
 pub struct Tasks {
     pub good: bool,
     pub line: usize,
@@ -17,7 +17,7 @@ pub struct Tasks {
 }
 
 // Whether the lines to skip are that, or the line at fault.
-#[derive(Drop)]
+#[derive(Clone, Copy)]
 pub struct Skipped {
     pub good: bool,
     pub line: usize,
@@ -91,7 +91,7 @@ fn comments_at(text: &[u8], at: usize, line: usize) -> Skipped
 }
 
 // The task count, and the place of the next line.
-#[derive(Drop)]
+#[derive(Clone, Copy)]
 pub enum Count {
     Tasks(usize, usize),
     Fault,
@@ -115,7 +115,7 @@ fn count_at(text: &[u8]) -> Count
 }
 
 // A text of the layout: n tasks beside the entry and the exit; or the first line at fault.
-#[derive(Drop)]
+#[derive(Clone, Copy)]
 pub struct Layout {
     pub good: bool,
     pub line: usize,

@@ -7,7 +7,7 @@ use vset::Vset;
 
 // The numbers of a line: how many, the first three, and the others as a set. Where one of the others stood twice or is above n + 1,
 // the row is not lawful.
-#[derive(Drop)]
+#[derive(Clone, Copy)]
 pub struct Row {
     pub many: usize,
     pub number: u64,
@@ -18,7 +18,7 @@ pub struct Row {
 }
 
 // A line of numbers, and the place of the next line.
-#[derive(Drop)]
+#[derive(Clone, Copy)]
 pub enum Line {
     Read(Row, usize),
     Fault,

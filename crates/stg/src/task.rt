@@ -8,7 +8,7 @@ use crate::row::{Line, Row};
 use vset::Vset;
 
 // A task's time and predecessors, and the place of the next line.
-#[derive(Drop)]
+#[derive(Clone, Copy)]
 pub enum Task {
     Good(u32, Vset, usize),
     Fault,

@@ -1,10 +1,12 @@
 // A Standard Task Graph text, field by field.
+#![tactic(auto)]
+
 ghost use Rattle.std.specs.Prelude.{◌≡◌, ◌≤◌, ◌<◌, length, get_or, drop};
 ghost use Rattle.stg_text.specs.Fields as fields;
 ghost use Rattle.stg_scan.specs.Scan as scans;
 
 // What comes first: the line's end, and the place past it; a number, and the place past it; or what the layout has not.
-#[derive(Drop)]
+#[derive(Clone, Copy)]
 pub enum Token {
     End(usize),
     Number(u64, usize),

@@ -1,4 +1,6 @@
 // Standard Task Graph text: the writer.
+#![tactic(auto)]
+
 ghost use Rattle.std.specs.Prelude.{◌≡◌, length};
 ghost use Rattle.graph.specs.Model.{AcceptedGraph};
 ghost use Rattle.reader.specs.Laid.{graph_in};

@@ -1,5 +1,7 @@
 // The summary: each vertex's largest sum ending there and largest starting there, the vertex itself in both. For each of the two, one function
 // makes the sums of marked vertices: of all of them, or of those that a changed weight touches.
+#![tactic(auto)]
+
 ghost use Rattle.graph.specs.declared.Graph.{Graph};
 ghost use Rattle.graph.specs.Model.{as_model};
 ghost use Rattle.paths.specs.Ahead.{Weighed};
@@ -14,7 +16,7 @@ mod marks; // marks.rt: which sums a changed weight touches
 pub mod row; // row.rt: the edges of one vertex
 mod starting; // starting.rt: the sums that start at each vertex
 
-#[derive(Drop)]
+#[derive(Clone, Copy)]
 pub struct Summary {
     pub ending: [u64; 128],
     pub starting: [u64; 128],

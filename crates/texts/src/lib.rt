@@ -1,4 +1,6 @@
 // Lines, words and numbers of a text. A place is an index into it; past its end a text goes on with line feeds.
+#![tactic(auto)]
+
 ghost use Rattle.std.specs.Prelude.{◌≡◌, not, ◌≤◌};
 ghost use Rattle.texts.specs.Text.{byte_at, is_blank, ends, stops, until, line_after, part_of, word_at, word_after, same, is_named_of, which_name, digit_of, grown, number_of};
 

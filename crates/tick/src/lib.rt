@@ -1,5 +1,7 @@
 // The run record, and one tick of it as a value that is handed back. For accepted graphs, whose lists are lent one by one: the entries for
 // callers are in `schedule`.
+#![tactic(auto)]
+
 ghost use Rattle.std.specs.Prelude.{◌≡◌, true};
 ghost use Rattle.graph.specs.declared.Graph.{Graph};
 ghost use Rattle.tick.specs.Run.{ticked_of};
@@ -15,7 +17,7 @@ const MOST: u64 = 128000000;
 // N, the instant, the ticks remaining of each vertex, which vertices ran in the last tick and are unfinished, and for each vertex how many of
 // its direct predecessors are unfinished. Places from N on are zero and unmarked.
 #[repr(C)]
-#[derive(Drop)]
+#[derive(Clone, Copy)]
 pub struct Run {
     pub n: usize,
     pub instant: u64,
@@ -24,14 +26,14 @@ pub struct Run {
     pub waiting: [u8; 128],
 }
 
-#[derive(Drop)]
+#[derive(Clone, Copy)]
 pub enum Report {
     Moved,
     Done,
     Refused(Refusal),
 }
 
-#[derive(Drop)]
+#[derive(Clone, Copy)]
 pub struct Ticked {
     pub report: Report,
     pub run: Run,

@@ -1,5 +1,7 @@
 // The execution times that a caller gives: judged, and laid in a run record. For accepted graphs: the entries for callers are in
 // `schedule`.
+#![tactic(auto)]
+
 ghost use Rattle.std.specs.Prelude.{◌≡◌, ◌≤◌, length};
 ghost use Rattle.model.specs.Places.{first, padded};
 ghost use Rattle.model.specs.ListSchedule.{begin};

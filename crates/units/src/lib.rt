@@ -1,11 +1,13 @@
 // Ticks and parts of a tick: separate quantities. One becomes the other only by the conversions below.
+#![tactic(auto)]
+
 ghost use Rattle.std.specs.Prelude.{◌≡◌, ◌+◌, ◌-◌, ◌*◌, ◌/◌, ◌<◌};
 ghost use Rattle.model.specs.Bounds.{PARTS};
 
-#[derive(Drop)]
+#[derive(Clone, Copy)]
 pub struct Ticks(pub u64);
 
-#[derive(Drop)]
+#[derive(Clone, Copy)]
 pub struct Parts(pub u64);
 
 impl Parts {

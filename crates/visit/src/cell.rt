@@ -5,7 +5,7 @@ ghost use Rattle.visit.specs.Cells.{cell_of, cell_words};
 use vset::Vset;
 
 // A vertex of the path; the number of the first path that has this beginning; the vertices beside the path up to here, and its value.
-#[derive(Drop)]
+#[derive(Clone, Copy)]
 pub struct Cell {
     pub v: usize,
     pub base: u64,

@@ -8,7 +8,7 @@ ghost use Rattle.visit.specs.Cells.{Chosen, Begun};
 use summary::row::{many, nth};
 
 // A vertex, and the number of the first path that goes to it here.
-#[derive(Drop)]
+#[derive(Clone, Copy)]
 pub struct Step {
     pub v: usize,
     pub base: u64,

@@ -1,5 +1,7 @@
 // The largest second value of a complete path. The paths are visited one after the other by their numbers; those that begin alike share the cells of
 // their beginning, so that only what comes after the last common vertex is walked again.
+#![tactic(auto)]
+
 ghost use Rattle.std.specs.Prelude.{◌≡◌, ℕ, ◌-◌, ◌+◌, ◌≤◌, ◌<◌, max, get_or};
 ghost use Rattle.model.specs.Second.{NewB2};
 ghost use Rattle.model.specs.PathCount.{path_count};

@@ -1,10 +1,12 @@
+#![tactic(auto)]
+
 ghost use Rattle.std.specs.Prelude.{◌≡◌, true, false, not, ◌&&◌, ◌||◌, ◌<◌, eqb, ltb};
 ghost use Rattle.model.specs.Places.{count, first, any};
 ghost use Rattle.vset.specs.Members.{is_in, Members};
 
 // A set of numbers below 128: number v is bit v mod 64 of word v / 64.
 #[repr(C)]
-#[derive(Drop)]
+#[derive(Clone, Copy)]
 pub struct Vset {
     pub lo: u64,
     pub hi: u64,
@@ -122,7 +124,7 @@ pub fn lowest(s: Vset) -> usize
 
 // The lowest member of a set that has one, and the others. A loop over a set takes its members so, one by one: a word less 1 differs
 // from the word in its lowest 1 and the zeros below that.
-#[derive(Drop)]
+#[derive(Clone, Copy)]
 pub struct Taken {
     pub v: usize,
     pub rest: Vset,

@@ -1,5 +1,7 @@
 // Each vertex's number of unfinished predecessors. A vertex that is finished tells its successors, so that each edge is looked at once
 // in a whole run. A successor with no ticks left that waited for this one alone is finished as well, and tells its own.
+#![tactic(auto)]
+
 ghost use Rattle.std.specs.Prelude.{◌≡◌, ℕ, ◌≤◌, ◌<◌, ltb, get_or, length};
 ghost use Rattle.vset.specs.Members.{is_in, Members};
 ghost use Rattle.starts.specs.Starts.{leads_to, Rows};
@@ -10,7 +12,7 @@ ghost use Rattle.waiting.specs.Waiting.{leading, edges_by, Layout, Released, Tol
 use vset::Vset;
 
 // Who stands behind an unfinished vertex, and who is finished and has not told its successors.
-#[derive(Drop)]
+#[derive(Clone, Copy)]
 pub struct News {
     pub behind: Vset,
     pub done: Vset,
@@ -115,7 +117,7 @@ fn all(n: usize) -> Vset
 }
 
 // The numbers, and who stands behind an unfinished vertex.
-#[derive(Drop)]
+#[derive(Clone, Copy)]
 pub struct Counters {
     pub waiting: [u8; 128],
     pub behind: Vset,

@@ -1,5 +1,7 @@
 // How many paths lead from each vertex to a sink, and how many complete paths there are. Every number is cut at 4,097, in each place and in each
 // sum: a graph may have more paths than 64 bits can count, and 4,097 says that there are more than 4,096.
+#![tactic(auto)]
+
 ghost use Rattle.std.specs.Prelude.{◌≡◌, [], ℕ, ◌≤◌, ◌<◌, min, eqb, get_or};
 ghost use Rattle.model.specs.Places.{pick};
 ghost use Rattle.graph.specs.declared.Graph.{Graph};

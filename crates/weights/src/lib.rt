@@ -1,4 +1,6 @@
 // What the vertices weigh, in one list for each measure. Places from N on are zero.
+#![tactic(auto)]
+
 ghost use Rattle.std.specs.Prelude.{◌≡◌, ℕ, ◌<◌, ◌≤◌, get_or};
 ghost use Rattle.model.specs.Places.{padded};
 ghost use Rattle.weights.specs.Weight.{rate_of, rates_of, weight_by, stages, Small};
@@ -8,7 +10,7 @@ use units::Parts;
 pub mod volume; // volume.rt: the sum over the kinds, and the most cores of a kind that a vertex has
 
 // Plain WCETs in ticks, or scaled weights in parts.
-#[derive(Drop)]
+#[derive(Clone, Copy)]
 pub enum Measure {
     Plain,
     Scaled,

@@ -1,4 +1,6 @@
 // A request cut into what it holds: lists (4 bytes of the length in bytes, then the bytes) and numbers (8 bytes), low byte first.
+#![tactic(auto)]
+
 ghost use Rattle.std.specs.Prelude.{◌≡◌, ◌+◌, ◌-◌, ◌*◌, ◌≤◌, min, length};
 ghost use Rattle.wire.specs.Payload.{two_bytes, four_bytes, list_at, number_at, Within, laid_in, laid_over};
 
@@ -11,14 +13,14 @@ pub const PRESET_WORD: u32 = 0xA5A5A5A5;
 pub const PRESET_LONG: u64 = 0xA5A5A5A5A5A5A5A5;
 
 // Where the bytes of a list stand in the payload; `good` is false where the payload has no list there.
-#[derive(Drop)]
+#[derive(Clone, Copy)]
 pub struct Part {
     pub start: usize,
     pub end: usize,
     pub good: bool,
 }
 
-#[derive(Drop)]
+#[derive(Clone, Copy)]
 pub struct Eight {
     pub value: u64,
     pub end: usize,

@@ -1,4 +1,6 @@
 // The writer of the graph file: from a graph's lists to its bytes.
+#![tactic(auto)]
+
 ghost use Rattle.std.specs.Prelude.{◌≡◌, ◌≤◌, min, length};
 ghost use Rattle.graph.specs.Judge.{judge_from};
 ghost use Rattle.graph.specs.declared.Answer.TheVariants.{Accepted};
@@ -11,7 +13,7 @@ mod records;
 use graph::{Answer, Refusal};
 
 // How many bytes the file has, or what the answer says no with.
-#[derive(Drop)]
+#[derive(Clone, Copy)]
 pub enum Wrote {
     Bytes(usize),
     Refused(Refusal),
