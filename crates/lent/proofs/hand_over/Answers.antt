@@ -13,19 +13,19 @@ pub bounds-out-v : goal.bounds-out-v
 bounds-out-v c =
     let a = c.args in
     let l = c.loop-v in
-    rw (l.invariant.1, written-length (λ v. get_or a.t1 v 0) a.out.now l.v (omega (arith, c.requires.1))) (omega (arith, c.requires.1))
+    rw (l.invariant.1, written-length (λ v. get_or a.from v 0) a.out.now l.v (omega (arith, c.requires.1))) (omega (arith, c.requires.1))
 
 pub loop-v-preserved : goal.loop-v-preserved
 loop-v-preserved c =
     let a = c.args in
     let l = c.loop-v in
-    (search rules, rw l.invariant.1 (written-more (λ v. get_or a.t1 v 0) a.out.now l.v (omega (arith, c.requires.1))))
+    (search rules, rw l.invariant.1 (written-more (λ v. get_or a.from v 0) a.out.now l.v (omega (arith, c.requires.1))))
 
 pub shape_of-out : goal.shape_of-out
 shape_of-out c =
     let a = c.args in
     let l = c.loop-v in
-    rw l.invariant.1 (written-length (λ v. get_or a.t1 v 0) a.out.now l.v (omega (arith, c.requires.1)))
+    rw l.invariant.1 (written-length (λ v. get_or a.from v 0) a.out.now l.v (omega (arith, c.requires.1)))
 
 pub returns : goal.returns
 returns c = let l = c.loop-v in let e : l.v ≡ c.args.n = omega arith in rw (← e) l.invariant.1

@@ -55,4 +55,5 @@ loop-rest-preserved c =
 pub returns : goal.returns
 returns c =
     let l = c.loop-rest in
-    lowering_all c.args.left.now (is_in c.args.on) c.args.d l.left l.over l.least (is_in l.rest) l.invariant (emptied c.args.on (is_in l.rest) (omega arith) (omega arith) l.invariant.inside c.is_empty.result c.is_empty.ensures c.loop-rest-test.false-raw)
+    let whole = lowering_all c.args.left.now (is_in c.args.on) c.args.d l.left l.over l.least (is_in l.rest) l.invariant (emptied c.args.on (is_in l.rest) (omega arith) (omega arith) l.invariant.inside c.is_empty.result c.is_empty.ensures c.loop-rest-test.false-raw) in
+    record { left_after = whole.0; members = whole.1.0; least_from = whole.1.1 }

@@ -29,4 +29,4 @@ returns c =
     let l = c.loop-v in
     let a = c.args in
     let q : l.v ≡ 128 = omega arith in
-    l.invariant.1 ∙ ap₂ (λ (f : ℕ → Bool) (k : ℕ). every (right a.pred.now a.t2 f) k) (fun_ext c.either-some.ensures.are) q
+    l.invariant.1 ∙ ap₂ (λ (f : ℕ → Bool) (k : ℕ). every (right a.pred.now a.waiting f) k) (fun_ext c.either-some.ensures.are) q

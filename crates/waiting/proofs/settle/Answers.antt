@@ -49,19 +49,7 @@ tell-news-requires c =
     let U = l.invariant.0 in
     let a = start-at c.args.edge.now c.args.starts.now L u (omega (arith, h.0)) in
     let b = start-at c.args.edge.now c.args.starts.now L (u + 1) (omega (arith, h.0)) in
-    rw (a, b) (
-      U.long,
-      (
-        (start-later c.args.edge.now (edges_by c.args.starts.now) u, omega (arith, start-in c.args.edge.now (edges_by c.args.starts.now) (u + 1), L.few)),
-        (
-          (λ i k. (L.known i (omega (arith, k, start-in c.args.edge.now (edges_by c.args.starts.now) (u + 1)))).1),
-          (
-            enough c.args.edge.now c.args.starts.now L l.waiting (is_in c.args.busy) (is_in l.hind) (is_in l.rest) U u h.1,
-            record { low = l.invariant.1.0.low; high = l.invariant.1.0.high; are = U.stand },
-          ),
-        ),
-      ),
-    )
+    rw (a, b) record { waiting_len = U.long; start_le_end = (start-later c.args.edge.now (edges_by c.args.starts.now) u, omega (arith, start-in c.args.edge.now (edges_by c.args.starts.now) (u + 1), L.few)); by_index = (λ i k. (L.known i (omega (arith, k, start-in c.args.edge.now (edges_by c.args.starts.now) (u + 1)))).1); by_index_2 = enough c.args.edge.now c.args.starts.now L l.waiting (is_in c.args.busy) (is_in l.hind) (is_in l.rest) U u h.1; members = record { low = l.invariant.1.0.low; high = l.invariant.1.0.high; are = U.stand } }
 
 -- its successors are told along the edges from its start up to the next
 told : (c : After-rest-1) → Told c.args.edge.now (start_in c.args.edge.now (edges_by c.args.starts.now) c.next-next.result.v) (start_in c.args.edge.now (edges_by c.args.starts.now) (c.next-next.result.v + 1)) c.loop-busy.waiting (is_in c.args.busy) (record { behind = c.loop-busy.hind; done = c.next-next.result.rest }) c.tell-news.new.waiting c.tell-news.result

@@ -6,7 +6,7 @@ use Rattle.model.specs.Places.{padded}
 use Rattle.weights.proofs.weights.Given as goal
 
 -- what a vertex weighs by the rates
-pub weighted : List ℕ → List ℕ → List ℕ → ℕ → ℕ
+unfoldable pub weighted : List ℕ → List ℕ → List ℕ → ℕ → ℕ
 weighted kind wcet rate u = get_or wcet u 0 * get_or rate (get_or kind u 0) 0
 
 abbrev pub invariant-loop-v : goal.invariant-loop-v
