@@ -35,7 +35,7 @@ pub(crate) fn hand_over(keys: &[u64; 256], m: usize, out: &mut [u8])
     let mut k = 0usize;
     while k < m {
         let r = record(keys[k]);
-        bytes::copy(&r, &mut out[8 * k..]);
+        copies::copy(&r, &mut out[8 * k..]);
         k += 1;
     }
 }

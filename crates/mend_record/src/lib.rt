@@ -53,7 +53,7 @@ pub fn put(buffer: &mut [u8], at: usize, r: &[u8; 8], on: bool)
     ensures { buffer.new ≡ put buffer.old at r.now on }
 {
     if on {
-        bytes::copy(r, &mut buffer[at..]);
+        copies::copy(r, &mut buffer[at..]);
     }
 }
 

@@ -25,7 +25,7 @@ pub(crate) fn image(
     let mut k = 0;
     while k < n {
         let r = record_at(cores, kinds, wcets, edges, a, b, k);
-        bytes::copy(&r, &mut t[8 * k..]);
+        copies::copy(&r, &mut t[8 * k..]);
         k += 1;
     }
 }

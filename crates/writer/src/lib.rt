@@ -30,7 +30,7 @@ fn copied(file: &[u8], out: &mut [u8]) -> Wrote
             place: 0,
         });
     }
-    bytes::copy(file, out);
+    copies::copy(file, out);
     Wrote::Bytes(size)
 }
 

@@ -8,6 +8,6 @@ returns-then-end-t c = part-there _ _ _ c.if-start-end.true c.if-end-t.true
 
 pub returns : goal.returns
 returns c = elim c.if-start-end.branch [
-  | then-start-end w ↦ part-past _ _ _ w.if-start-end.true w.if-end-t.false
+  | then-start-end+else-end-t w ↦ part-past _ _ _ w.if-start-end.true w.if-end-t.false
   | else-start-end w ↦ part_back _ _ _ w.if-start-end.false
 ]
