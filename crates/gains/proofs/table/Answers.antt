@@ -1,0 +1,10 @@
+use Rattle.reader.proofs.Again.{usable_again}
+use Rattle.gains.proofs.table.Goals as goal
+
+pub table_of-requires : goal.table_of-requires
+table_of-requires c =
+    usable_again c.requires c.header_of-h.ensures c.along-order.ensures
+
+pub returns : goal.returns
+returns c =
+    rw c.header_of-h.ensures at c.table_of.ensures
