@@ -23,7 +23,7 @@ pub run-one : OneOutcome run.ended run-reads.Pre run-reads.Post
 run-one κs a r r' ws ws' pre p q = (p.0 ∙ sym q.0, λ i. (tt, (tt, ((p.1 ∙ sym q.1) i, tt))))
 
 -- a function that is proved by hand has no `Reads`: its clause is said again, and `refl` holds it to the generated one
-abbrev pub tick_in_place_stated : Stated tick-in-place.ended (λ M. tick-in-place.clauses {M = M})
+abbrev pub tick_in_place_stated : Stated tick-in-place.ended (λ M 𝓤. tick-in-place.clauses {M = M} {𝓤 = 𝓤})
 tick_in_place_stated = record {
   post = λ κs a r e. (e.0.now ≡ (tick_of a.1.0.now a.0.now).run) × (r ≡ (tick_of a.1.0.now a.0.now).report);
   says = λ M 𝓤 𝓛 mem run κs a g r e. refl;
@@ -32,7 +32,7 @@ tick_in_place_stated = record {
 pub tick_in_place-one : OneOutcome tick-in-place.ended (λ κs a. Unit {0}) tick_in_place_stated.post
 tick_in_place-one κs a r r' ws ws' pre p q = (p.1 ∙ sym q.1, λ i. ((p.0 ∙ sym q.0) i, ws.1))
 
-abbrev pub ticked_in_place_stated : Stated ticked-in-place.ended (λ M. ticked-in-place.clauses {M = M})
+abbrev pub ticked_in_place_stated : Stated ticked-in-place.ended (λ M 𝓤. ticked-in-place.clauses {M = M} {𝓤 = 𝓤})
 ticked_in_place_stated = record {
   post = λ κs a r e. r ≡ tick_of a.1.0.now a.0;
   says = λ M 𝓤 𝓛 mem run κs a g r e. refl;
