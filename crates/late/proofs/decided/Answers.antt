@@ -10,6 +10,7 @@ use Rattle.bounds.proofs.Weighing.{small-stages}
 use Rattle.leaps.proofs.Stopping.{lent}
 use Rattle.late.proofs.Answers.{told-at-once, told_by_run, above}
 use Rattle.late.proofs.decided.Goals as goal
+use Rattle.late.proofs.decided.Goals.{then-least-d+else-bound-d, else-least-d}
 use Rattle.late.proofs.decided.Goals.{After-volume-shares, Joined-least-d, Start}
 
 -- the graph that the lists are
@@ -34,10 +35,10 @@ returns-then-bound-d c =
 -- where the run is played, NEW-B-1 is above d
 later : (c : Joined-least-d) → (B : ℕ) × NewB1 (as_model (given (goal.at.Joined-least-d c).Start)) B × (c.args.d < B / PARTS)
 later c =
-    ⊎_elim
-    (λ w. (w.1.result.0, w.1.ensures, omega (arith, w.2.ensures, w.4.left)))
-    (λ w. above (given (goal.at.Joined-least-d c).Start) c.requires.usable.accepted c.args.times.now c.requires.fitting c.args.d (omega (arith, shares (goal.at.Joined-least-d c).After-volume-shares, c.ticks-least.ensures, w.left)))
-    c.if-least-d.branch
+    elim c.if-least-d.branch [
+      | then-least-d+else-bound-d w ↦ (w.new_of-new.result.0, w.new_of-new.ensures, omega (arith, w.ticks-bound.ensures, w.if-bound-d.false))
+      | else-least-d w ↦ above (given (goal.at.Joined-least-d c).Start) c.requires.usable.accepted c.args.times.now c.requires.fitting c.args.d (omega (arith, shares (goal.at.Joined-least-d c).After-volume-shares, c.ticks-least.ensures, w.if-least-d.false))
+    ]
 
 pub looked_up-requires : goal.looked_up-requires
 looked_up-requires c =

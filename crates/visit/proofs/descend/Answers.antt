@@ -60,7 +60,7 @@ pub loop-c-preserved : goal.loop-c-preserved
 loop-c-preserved c = (
   λ g D L among R. rw c.put.ensures
       (next-reached (record { ground = D; laid = L; among = among; reached = c.loop-c.invariant.0 g D L among R; is = c.loop-c.invariant.1 }) c.child-s.result c.child-s.ensures c.opened-c.result c.opened-c.ensures),
-  rw c.put.ensures (sym (cell-last c.loop-c.cells c.loop-c.d c.opened-c.result (omega (arith, (its (goal.at.loop-c-preserved c).At-loop-c).reached.auto.size, room (goal.at.loop-c-preserved c).After-child-s)))),
+  rw c.put.ensures (sym (cell-last c.loop-c.cells c.loop-c.d c.opened-c.result (omega (arith, (its (goal.at.loop-c-preserved c).At-loop-c).reached.kept.size, room (goal.at.loop-c-preserved c).After-child-s)))),
 )
 
 pub returns : goal.returns

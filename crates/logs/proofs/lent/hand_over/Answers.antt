@@ -35,7 +35,7 @@ copy-requires c =
     let l = c.loop-k in
     omega (
       arith,
-      ap length c.before.before.«record».ensures,
+      ap length c.record-r.ensures,
       eight (place c.args.keys.now l.k),
       length-take (length l.out - 8 * l.k) (drop (8 * l.k) l.out),
       length-drop (8 * l.k) l.out,
@@ -48,9 +48,9 @@ pub loop-k-preserved : goal.loop-k-preserved
 loop-k-preserved c =
     let l = c.loop-k in
     let f = place c.args.keys.now in
-    let r = c.before.before.before.before.before.«record» in
+    let r = c.record-r in
     let t = c.loop-k-test.true in
-    let y = rw (take-length r.result, r.ensures, eight (f l.k)) at c.copy.ensures.after in
+    let y = rw (r.ensures, eight (f l.k)) at c.copy.ensures.after in
     (search rules, rw (y, same (goal.at.loop-k-preserved c).At-loop-k, l.invariant.1) (handed_more f c.args.out.now l.k (omega (arith, c.requires.m_bound.1))))
 
 pub shape_of-out : goal.shape_of-out

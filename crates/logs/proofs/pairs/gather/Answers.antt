@@ -7,6 +7,7 @@ use Rattle.remains.specs.Remains.{place}
 use Rattle.logs.proofs.Gathering.{gathered_none, gathered-skip, gathered-more}
 use borrow.Author.Rules.{rules}
 use Rattle.logs.proofs.pairs.gather.Goals as goal
+use Rattle.logs.proofs.pairs.gather.Goals.{then-time-gt0, else-time-gt0}
 use Rattle.logs.proofs.pairs.gather.Goals.{In-loop-v}
 
 -- what is required of the vertex that is looked at
@@ -42,10 +43,10 @@ pub loop-v-preserved : goal.loop-v-preserved
 loop-v-preserved c =
     let l = c.loop-v in (
       search rules,
-      ⊎_elim
-          (λ z. rw (z.2, z.3) (gathered-more _ _ l.v l.m l.keys l.invariant.1 (omega (arith, c.requires.n_bound.0)) z.0.taken (known (goal.at.loop-v-preserved c).In-loop-v).0))
-          (λ z. rw (z.1, z.2) (gathered-skip _ _ l.v l.m l.keys l.invariant.1 (omega (arith, z.0.left))))
-          c.if-time-gt0.branch,
+      elim c.if-time-gt0.branch [
+        | then-time-gt0 z ↦ rw (z.keys-is, z.m-is) (gathered-more _ _ l.v l.m l.keys l.invariant.1 (omega (arith, c.requires.n_bound.0)) z.if-time-gt0.true (known (goal.at.loop-v-preserved c).In-loop-v).0)
+        | else-time-gt0 z ↦ rw (z.keys-is, z.m-is) (gathered-skip _ _ l.v l.m l.keys l.invariant.1 (omega (arith, z.if-time-gt0.false)))
+      ],
     )
 
 pub returns : goal.returns

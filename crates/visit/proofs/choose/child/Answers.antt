@@ -36,8 +36,7 @@ overflow_cast-next c = omega (arith, c.requires.by_index c.nth-v.result)
 
 pub overflow_add-next : goal.overflow_add-next
 overflow_add-next c =
-    let p = c.requires.1 in
-    omega (arith, c.loop-j.invariant.2, p.0.1, p.1 c.nth-v.result)
+    omega (arith, c.loop-j.invariant.2, c.requires.first_le_k.1, c.requires.by_index c.nth-v.result)
 
 pub returns-then-k-next : goal.returns-then-k-next
 returns-then-k-next c =
