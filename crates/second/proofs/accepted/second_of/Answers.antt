@@ -43,10 +43,10 @@ within : (c : Else-count-gt4096) → c.whole-count.result ≡ path_count (as_mod
 within c = omega (arith, whole (goal.at.Else-count-gt4096 c).After-whole-count, c.if-count-gt4096.false)
 
 grounds : (c : After-shares-share)
-    → Ground (given (start (goal.at.After-shares-share c).Else-count-gt4096)) c.table-ways.result c.beside.new.t (start (goal.at.After-shares-share c).Else-count-gt4096).args.kind.now (start (goal.at.After-shares-share c).Else-count-gt4096).args.wcet.now c.shares-share.result
+    → Ground (given (start (goal.at.After-shares-share c).Else-count-gt4096)) c.table-ways.result c.beside.new.t c.args.kind.now c.args.wcet.now c.shares-share.result
 grounds c =
-    let p = (start (goal.at.After-shares-share c).Else-count-gt4096).requires.0 in
-    ground p (counts (goal.at.After-shares-share c).After-table-ways) (few (goal.at.After-shares-share c).Else-count-gt4096) (c.beside.ensures _ (lists p) refl (start (goal.at.After-shares-share c).Else-count-gt4096).requires.1.ancestors) c.shares-share.ensures
+    let p = c.requires.usable in
+    ground p (counts (goal.at.After-shares-share c).After-table-ways) (few (goal.at.After-shares-share c).Else-count-gt4096) (c.beside.ensures _ (lists p) refl c.requires.kin.ancestors) c.shares-share.ensures
 
 pub led-led-requires : goal.led-led-requires
 led-led-requires c = c.requires.usable.accepted.few_vertices
@@ -73,8 +73,8 @@ overflow_cast-count c = omega (arith, c.if-count-gt4096.false)
 
 pub largest-parts-requires : goal.largest-parts-requires
 largest-parts-requires c =
-    (_, grounds (goal.at.largest-parts-requires c).After-shares-share, laid (start (goal.at.largest-parts-requires c).Else-count-gt4096).requires.0, unled (goal.at.largest-parts-requires c).After-led-led, refl, within (goal.at.largest-parts-requires c).Else-count-gt4096)
+    (_, grounds (goal.at.largest-parts-requires c).After-shares-share, laid c.requires.usable, unled (goal.at.largest-parts-requires c).After-led-led, refl, within (goal.at.largest-parts-requires c).Else-count-gt4096)
 
 pub returns : goal.returns
 returns c =
-    found (few (goal.at.returns c).Else-count-gt4096) refl (c.largest-parts.ensures _ (grounds (goal.at.returns c).After-shares-share) (laid (start (goal.at.returns c).Else-count-gt4096).requires.0) (unled (goal.at.returns c).After-led-led) refl (within (goal.at.returns c).Else-count-gt4096))
+    found (few (goal.at.returns c).Else-count-gt4096) refl (c.largest-parts.ensures _ (grounds (goal.at.returns c).After-shares-share) (laid c.requires.usable) (unled (goal.at.returns c).After-led-led) refl (within (goal.at.returns c).Else-count-gt4096))
