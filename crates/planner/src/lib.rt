@@ -1,5 +1,4 @@
-// What C and Rust call: every entry of the planner, its answer as `codes` lays it out for C. A list is a pointer and then a length.
-// include/planner.h declares all of it.
+// Every entry of the planner, its answer as `codes` lays it out for C. `planner_c` exports each of them.
 #![tactic(auto)]
 
 ghost use Rattle.std.specs.Prelude.{◌≡◌, length};
@@ -25,15 +24,13 @@ use codes::{
 };
 use tick::Run;
 
-#[unsafe(no_mangle)]
-pub extern "C" fn planner_read(file: &[u8]) -> PlannerGraph
+pub fn planner_read(file: &[u8]) -> PlannerGraph
     ensures { result ≡ coded_graph_of (read_of file.now) }
 {
     coded_graph(reader::read(file))
 }
 
-#[unsafe(no_mangle)]
-pub extern "C" fn planner_write(
+pub fn planner_write(
     cores: &[u8],
     kinds: &[u8],
     wcets: &[u32],
@@ -45,116 +42,91 @@ pub extern "C" fn planner_write(
     coded_wrote(writer::write(cores, kinds, wcets, edges, out))
 }
 
-#[unsafe(no_mangle)]
-pub extern "C" fn planner_bounds(file: &[u8]) -> PlannerBounds
+pub fn planner_bounds(file: &[u8]) -> PlannerBounds
     ensures { BoundsCoded file.now result }
 {
     coded_bounds(bounds::bounds(file))
 }
 
-#[unsafe(no_mangle)]
-pub extern "C" fn planner_second(file: &[u8]) -> PlannerSecond
+pub fn planner_second(file: &[u8]) -> PlannerSecond
     ensures { SecondCoded file.now result }
 {
     coded_second(second::second(file))
 }
 
-#[unsafe(no_mangle)]
-pub extern "C" fn planner_enough(file: &[u8], kind: u32, limit: u32) -> PlannerEnough
+pub fn planner_enough(file: &[u8], kind: u32, limit: u32) -> PlannerEnough
     ensures { EnoughCoded file.now kind limit result }
 {
     coded_enough(enough::enough(file, kind, limit))
 }
 
-#[unsafe(no_mangle)]
-pub extern "C" fn planner_path(file: &[u8], out: &mut [u8]) -> PlannerCount
+pub fn planner_path(file: &[u8], out: &mut [u8]) -> PlannerCount
     ensures { PathCoded file.now out.old result out.new }
 {
     coded_path(bounds::path(file, out))
 }
 
-#[unsafe(no_mangle)]
-pub extern "C" fn planner_gains(file: &[u8], out: &mut [u64]) -> PlannerCount
+pub fn planner_gains(file: &[u8], out: &mut [u64]) -> PlannerCount
     ensures { GainsCoded file.now out.old result out.new }
 {
     coded_gains(gains::gains(file, out))
 }
 
-#[unsafe(no_mangle)]
-pub extern "C" fn planner_gains_altered(
-    file: &[u8],
-    vertex: u32,
-    wcet: u32,
-    out: &mut [u64],
-) -> PlannerCount
+pub fn planner_gains_altered(file: &[u8], vertex: u32, wcet: u32, out: &mut [u64]) -> PlannerCount
     ensures { AlteredCoded file.now vertex wcet out.old result out.new }
 {
     coded_gains(gains::gains_altered(file, vertex, wcet, out))
 }
 
-#[unsafe(no_mangle)]
-pub extern "C" fn planner_start(file: &[u8], times: &[u32]) -> PlannerRun
+pub fn planner_start(file: &[u8], times: &[u32]) -> PlannerRun
     ensures { result ≡ coded_start_of (start_of file.now times.now) }
 {
     coded_start(schedule::start(file, times))
 }
 
-#[unsafe(no_mangle)]
-pub extern "C" fn planner_tick(run: Run, file: &[u8]) -> PlannerTick
+pub fn planner_tick(run: Run, file: &[u8]) -> PlannerTick
     ensures { result ≡ coded_tick_of (tick_of file.now run) }
 {
     coded_tick(schedule::tick(run, file))
 }
 
-#[unsafe(no_mangle)]
-pub extern "C" fn planner_run(file: &[u8], times: &[u32], finishes: &mut [u32]) -> PlannerFinish
+pub fn planner_run(file: &[u8], times: &[u32], finishes: &mut [u32]) -> PlannerFinish
     ensures { (result ≡ coded_play_of (play_of file.now times.now (length finishes.old))) × (finishes.new ≡ finishes_of file.now times.now finishes.old) }
 {
     coded_play(schedule::run(file, times, finishes))
 }
 
-#[unsafe(no_mangle)]
-pub extern "C" fn planner_late(file: &[u8], times: &[u32], d: u32) -> PlannerLate
+pub fn planner_late(file: &[u8], times: &[u32], d: u32) -> PlannerLate
     ensures { LateCoded file.now times.now d result }
 {
     coded_late(late::late(file, times, d))
 }
 
-#[unsafe(no_mangle)]
-pub extern "C" fn planner_replay(file: &[u8], log: &[u8], times: &mut [u32]) -> PlannerFinish
+pub fn planner_replay(file: &[u8], log: &[u8], times: &mut [u32]) -> PlannerFinish
     ensures { (result ≡ coded_replay_of (replay_of file.now log.now (length times.old))) × (times.new ≡ times_after_of file.now log.now times.old) }
 {
     coded_replay(replay::replay(file, log, times))
 }
 
-#[unsafe(no_mangle)]
-pub extern "C" fn planner_log(file: &[u8], times: &[u32], log: &mut [u8]) -> PlannerCount
+pub fn planner_log(file: &[u8], times: &[u32], log: &mut [u8]) -> PlannerCount
     ensures { (result ≡ coded_wrote_of (logged_of file.now times.now (length log.old))) × (log.new ≡ log_room file.now times.now log.old) }
 {
     coded_wrote(logs::log(file, times, log))
 }
 
-#[unsafe(no_mangle)]
-pub extern "C" fn planner_stg_read(
-    text: &[u8],
-    cores: &[u8],
-    kinds: &[u8],
-    out: &mut [u8],
-) -> PlannerCount
+pub fn planner_stg_read(text: &[u8], cores: &[u8], kinds: &[u8], out: &mut [u8]) -> PlannerCount
     ensures { (result ≡ coded_wrote_of (read_stg_of text.now cores.now kinds.now (length out.old))) × (out.new ≡ read_room text.now cores.now kinds.now out.old) }
 {
     coded_wrote(stg::read(text, cores, kinds, out))
 }
 
-#[unsafe(no_mangle)]
-pub extern "C" fn planner_stg_write(file: &[u8], out: &mut [u8]) -> PlannerCount
+pub fn planner_stg_write(file: &[u8], out: &mut [u8]) -> PlannerCount
     ensures { (result ≡ coded_wrote_of (write_stg_of file.now (length out.old))) × (out.new ≡ write_room file.now out.old) }
 {
     coded_wrote(stg_writer::write(file, out))
 }
 
-#[unsafe(no_mangle)]
-pub extern "C" fn planner_mend(file: &[u8], out: &mut [u8], list: &mut [u8]) -> PlannerMended
+pub fn planner_mend(file: &[u8], out: &mut [u8], list: &mut [u8]) -> PlannerMended
     ensures { (result ≡ coded_mend_of (mend_of file.now (length out.old) (length list.old))) × (out.new ≡ file_after file.now out.old list.old) × (list.new ≡ list_after_of file.now out.old list.old) }
 {
     coded_mend(mend::mend(file, out, list))
@@ -179,8 +151,7 @@ fn step(run: Run, file: &[u8]) -> Stepped
 }
 
 // The caller's record moves on by one tick where it stands. On a refusal it holds what it held.
-#[unsafe(no_mangle)]
-pub extern "C" fn planner_tick_in_place(run: &mut Run, file: &[u8]) -> PlannerMoved
+pub fn planner_tick_in_place(run: &mut Run, file: &[u8]) -> PlannerMoved
     ensures { (run.new ≡ (tick_of file.now run.old).run) × (result ≡ coded_report_of (tick_of file.now run.old).report) }
 {
     let old = *run;
