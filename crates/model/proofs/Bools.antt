@@ -1,8 +1,8 @@
 -- Tests: and, or, not, and the number 1 or 0 of a test. Over any Bools.
-use mathlib.Core.Path.{◌≡◌, refl, sym, ◌∙◌}
+use mathlib.Core.Path.{◌≡◌, refl, sym}
 use mathlib.Core.Logic.{◌⊎◌, inl, inr}
 use mathlib.Core.Bool.{Bool, true, false, not, ◌&&◌, ◌||◌}
-use Prim.Native.Nat.{ℕ, zero, suc, ◌+◌, ◌≤◌, ◌<◌, zero-le, suc-le-suc}
+use Prim.Native.Nat.{ℕ, zero, suc, ◌≤◌, ◌<◌, zero-le, suc-le-suc}
 use native.Mathlib.Omega.{arith}
 use Rattle.model.specs.Places.{bit}
 

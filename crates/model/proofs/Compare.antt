@@ -1,17 +1,17 @@
 -- What the most cores are, and that NEW-B-1 is never above OLD-B: along every path, no vertex's kind has more cores than the most.
-use mathlib.Core.Path.{◌≡◌, refl, ap, sym}
+use mathlib.Core.Path.{◌≡◌, refl}
 use mathlib.Core.Bool.{Bool, true, false}
-use mathlib.Core.List.{List, [], ◌∷◌}
+use mathlib.Core.List.{List}
 use mathlib.Core.Logic.{◌⊎◌, inl, inr}
-use Prim.Native.Nat.{ℕ, zero, suc, ◌+◌, ◌-◌, ◌*◌, ◌/◌, ◌≤◌, ◌<◌}
+use Prim.Native.Nat.{ℕ, ◌-◌, ◌*◌, ◌/◌, ◌≤◌, ◌<◌}
 use native.Mathlib.Nat.{mul-le-mul_right, mul-le-mul_left}
 use native.Mathlib.Omega.{arith}
 use lib.Dec.{eqb}
 use borrow.Author.Tests.{eq-eqb, eqb-true}
 use Rattle.model.specs.Places.{pick, along}
 use Rattle.model.specs.Graph.{Graph, WellFormed}
-use Rattle.model.specs.Path.{ToSink, Complete, complete}
-use Rattle.model.specs.Bounds.{PARTS, scaled, volume, used, most_cores_of, OldB, NewB1}
+use Rattle.model.specs.Path.{Complete, complete}
+use Rattle.model.specs.Bounds.{PARTS, scaled, used, most_cores_of, OldB, NewB1}
 use Rattle.model.proofs.Places.{any_intro, any_elim}
 use Rattle.model.proofs.Sums.{along_scale, largest-most, largest-is}
 use Rattle.model.proofs.Paths.{along-path}

@@ -2,13 +2,13 @@
 --
 -- The rank is the number of ancestors. That u is an ancestor of v can be told by Warshall's recursion: `reach k u v` says
 -- that a walk from u to v has inner vertices below k alone. It is transitive by induction on k, with no counting of pigeons.
-use mathlib.Core.Path.{◌≡◌, refl, ap, sym, ◌∙◌}
+use mathlib.Core.Path.{◌≡◌, refl}
 use mathlib.Core.Logic.{◌⊎◌, inl, inr}
 use mathlib.Core.Bool.{true, false, ◌&&◌}
 use Prim.Native.Nat.{ℕ, zero, suc, ◌+◌, ◌-◌, ◌≤◌, ◌<◌, zero-le}
 use native.Mathlib.Omega.{arith}
 use native.Mathlib.Decide.{ℕ_discrete}
-use Rattle.model.specs.Places.{count, any}
+use Rattle.model.specs.Places.{count}
 use Rattle.model.specs.Graph.{Graph, Edge, WellFormed}
 use Rattle.model.specs.Cycle.{Walk, one, step, reach, ancestor, Acyclic, Ranked, walks, cyclic}
 use Rattle.model.proofs.Bools.{clash, cases, not-true, both, left-of, right_of, or_left, or_right, or_cases}

@@ -1,16 +1,15 @@
 -- Finished and ready, over what is left of each vertex.
-use mathlib.Core.Path.{◌≡◌, refl, ap, sym}
-use mathlib.Core.List.{List, [], ◌∷◌}
+use mathlib.Core.Path.{◌≡◌}
+use mathlib.Core.List.{List, ◌∷◌}
 use mathlib.Core.Logic.{◌⊎◌, inl, inr}
-use mathlib.Core.Bool.{Bool, true, false}
-use Prim.Native.Nat.{ℕ, zero, suc, ◌+◌, ◌-◌, ◌≤◌, ◌<◌, zero-le}
+use mathlib.Core.Bool.{true, false}
+use Prim.Native.Nat.{ℕ, zero, suc, ◌+◌, ◌≤◌, ◌<◌}
 use native.Mathlib.Omega.{arith}
 use native.Mathlib.Decide.{ℕ_discrete}
-use Rattle.model.specs.Places.{bit}
 use Rattle.model.specs.Graph.{Graph, Edge, WellFormed}
 use Rattle.model.specs.Cycle.{Walk, one, step, Ranked}
 use Rattle.model.specs.Path.{ToSink, link}
-use Rattle.model.specs.Schedule.{Schedule, left, Finished, done, Ready, FinishOf, AllFinished, Finish}
+use Rattle.model.specs.Schedule.{Schedule, left, Finished, done, Ready, FinishOf, Finish}
 use Rattle.model.proofs.Bools.{cases, clash, bit-one, le-or-lt}
 use Rattle.model.proofs.Places.{all-or-some}
 use Rattle.model.proofs.Paths.{Raised, same, raised_tail}

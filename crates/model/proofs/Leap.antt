@@ -6,14 +6,14 @@
 use mathlib.Core.Path.{◌≡◌, refl, ap, ap₂, sym, ◌∙◌, subst, fun_ext}
 use mathlib.Core.Logic.{◌⊎◌, inl, inr}
 use mathlib.Core.Bool.{Bool, true, false, not, ◌&&◌, ◌||◌}
-use Prim.Native.Nat.{ℕ, zero, suc, ◌+◌, ◌-◌, ◌≤◌, ◌<◌, zero-le, min}
+use Prim.Native.Nat.{ℕ, zero, suc, ◌-◌, ◌≤◌, ◌<◌, zero-le}
 use native.Mathlib.Omega.{arith}
 use lib.Dec.{eqb, ltb}
 use borrow.Author.Tests.{eq-eqb, ne_eqb, lt-ltb, le-ltb}
-use Rattle.model.specs.Places.{pick, bit, count, every}
+use Rattle.model.specs.Places.{pick, count, every}
 use Rattle.model.specs.Graph.{Graph, WellFormed}
 use Rattle.model.specs.ListSchedule.{finished_within, finished, ready, State, goes_on_next, waits, chosen, leap, step, steps, Fair}
-use Rattle.model.proofs.Bools.{cases, clash, not-true, true-not, both, left-of, right_of, imp_intro, le-or-lt}
+use Rattle.model.proofs.Bools.{cases, clash, not-true, both, left-of, right_of, imp_intro, le-or-lt}
 use Rattle.model.proofs.Places.{count_ext, count_less, every_intro}
 use Rattle.model.proofs.Tests.{finished-zeros, ready-zeros}
 use Rattle.model.proofs.Listed.{chosen-ready, chosen-count}

@@ -7,19 +7,18 @@ use mathlib.Core.Path.{◌≡◌, refl, ap, sym, ◌∙◌}
 use mathlib.Core.List.{List, [], ◌∷◌}
 use mathlib.Core.Logic.{◌⊎◌, inl, inr}
 use mathlib.Core.Bool.{Bool, true, false}
-use Prim.Native.Nat.{ℕ, zero, suc, ◌+◌, ◌-◌, ◌*◌, ◌/◌, ◌≤◌, ◌<◌, zero-le}
+use Prim.Native.Nat.{ℕ, zero, suc, ◌+◌, ◌-◌, ◌*◌, ◌/◌, ◌≤◌, ◌<◌}
 use native.Mathlib.Omega.{arith}
 use native.Mathlib.Decide.{ℕ_discrete}
 use Rattle.model.specs.Places.{along, sum}
-use Rattle.model.specs.Graph.{Graph, Edge, Source, Sink, source, WellFormed}
+use Rattle.model.specs.Graph.{Graph, Edge, Source, Sink, WellFormed}
 use Rattle.model.specs.Cycle.{Acyclic, Ranked}
 use Rattle.model.specs.Path.{ToSink, end, link, Complete, complete, Greatest, Before, here, later, LeastLongest}
 use Rattle.model.specs.Bounds.{OldB, NewB1, ThePath, PARTS, scaled, volume, most_cores_of}
-use Rattle.model.proofs.Bools.{cases, clash, le-or-lt}
-use Rattle.model.proofs.Places.{all-or-some}
+use Rattle.model.proofs.Bools.{clash, le-or-lt}
 use Rattle.model.proofs.Sums.{sum_term}
 use Rattle.model.proofs.Cycles.{ranked}
-use Rattle.model.proofs.Paths.{source-tells, sink-or, source-or, head-known, to_sink, to-source, Raised}
+use Rattle.model.proofs.Paths.{sink-or, source-or, head-known, to_sink, to-source}
 
 -- q does not beat p
 data Beaten (f : ℕ → ℕ) (q p : List ℕ) : Type 0 where

@@ -4,11 +4,11 @@
 -- over the whole graph, each vertex's c v times the share of a core of its kind. In a tick that begins with the path's first vertex
 -- ready, either that vertex runs, and its own two terms fall by the rest and the share, together a tick; or it waits, so all cores
 -- of its kind are busy with others, and each of these takes a share off the second sum: together a tick.
-use mathlib.Core.Path.{◌≡◌, refl, ap, sym}
-use mathlib.Core.List.{List, [], ◌∷◌}
+use mathlib.Core.Path.{◌≡◌}
+use mathlib.Core.List.{List, ◌∷◌}
 use mathlib.Core.Logic.{◌⊎◌, inl, inr}
-use mathlib.Core.Bool.{Bool, true, false}
-use Prim.Native.Nat.{ℕ, zero, suc, ◌+◌, ◌*◌, ◌/◌, ◌≤◌, ◌<◌}
+use mathlib.Core.Bool.{true, false}
+use Prim.Native.Nat.{ℕ, suc, ◌+◌, ◌*◌, ◌/◌, ◌≤◌, ◌<◌}
 use native.Mathlib.Nat.{mul-le-mul_right}
 use native.Mathlib.Omega.{arith}
 use Rattle.model.specs.Places.{sum, along}

@@ -1,8 +1,8 @@
 -- Laws of `first`, `count`, `any` and `every`, over any tests.
-use mathlib.Core.Path.{◌≡◌, refl, sym, ap, ap₂, ◌∙◌, fun_ext}
+use mathlib.Core.Path.{◌≡◌, refl, ap, ap₂}
 use mathlib.Core.Logic.{◌⊎◌, inl, inr, ⊎_elim}
-use mathlib.Core.Bool.{Bool, true, false, not, ◌&&◌, ◌||◌, or-true, or-false}
-use Prim.Native.Nat.{ℕ, zero, suc, ◌+◌, ◌-◌, ◌≤◌, ◌<◌, zero-le, suc-le-suc, min}
+use mathlib.Core.Bool.{Bool, true, false, not, ◌&&◌, ◌||◌}
+use Prim.Native.Nat.{ℕ, zero, suc, ◌+◌, ◌≤◌, ◌<◌, zero-le, suc-le-suc, min}
 use native.Mathlib.Nat.{le_of_suc-le-suc, not-suc-le-zero}
 use native.Mathlib.Numerals.{add-one}
 use native.Mathlib.Omega.{arith}
@@ -10,7 +10,7 @@ use native.Mathlib.Decide.{ℕ_discrete}
 use lib.Dec.{eqb, ltb}
 use borrow.Author.Tests.{lt-ltb, le-ltb, ne_eqb, eq-eqb}
 use Rattle.model.specs.Places.{pick, bit, first, count, any, every}
-use Rattle.model.proofs.Bools.{clash, cases, le-or-lt, not-true, both, left-of, right_of, or_left, or_right, or_cases, or_neither, bit-one, bit-zero, bit_le, bit_mono}
+use Rattle.model.proofs.Bools.{clash, cases, le-or-lt, not-true, both, left-of, right_of, or_left, or_right, or_cases, bit-one, bit-zero, bit_le, bit_mono}
 
 -- all places below n have P, or one has Q
 pub all-or-some : (P Q : ℕ → Type 0) (n : ℕ) → ((v : ℕ) → v < n → P v ⊎ Q v)

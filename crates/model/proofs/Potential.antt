@@ -10,17 +10,15 @@
 -- For t = 0 the path extends backwards to a source. From t to t + 1: w is unfinished at t too, so the path extends backwards to
 -- one whose first vertex is ready at t (perhaps w itself); by induction the claim holds for that one at t, the tick takes L off
 -- its value, and dropping the vertices in front makes the value no larger. Nothing here asks which vertex ran.
-use mathlib.Core.Path.{◌≡◌, refl}
-use mathlib.Core.List.{List, [], ◌∷◌}
-use mathlib.Core.Logic.{◌⊎◌, inl, inr}
-use Prim.Native.Nat.{ℕ, zero, suc, ◌+◌, ◌*◌, ◌/◌, ◌≤◌, ◌<◌}
+use mathlib.Core.List.{List, ◌∷◌}
+use Prim.Native.Nat.{ℕ, zero, suc, ◌+◌, ◌*◌, ◌≤◌, ◌<◌}
 use native.Mathlib.Omega.{arith}
 use Rattle.model.specs.Graph.{Graph, WellFormed}
 use Rattle.model.specs.Cycle.{Ranked}
 use Rattle.model.specs.Path.{ToSink, Complete, complete}
 use Rattle.model.specs.Schedule.{Schedule, left, Finished, Ready}
-use Rattle.model.proofs.Paths.{Extends, same, more, Raised, to-source, to_sink}
-use Rattle.model.proofs.Finished.{fin_step, finished?, to-ready}
+use Rattle.model.proofs.Paths.{Extends, same, more, to-source, to_sink}
+use Rattle.model.proofs.Finished.{fin_step, to-ready}
 
 module _ {G : Graph} (W : WellFormed G) (R : Ranked G) (S : Schedule) (L B : ℕ) (value : ℕ → List ℕ → ℕ)
     (grow : (t u : ℕ) (p : List ℕ) → value t p ≤ value t (u ∷ p))

@@ -1,6 +1,5 @@
 -- Parts of a tick: 720,720 is divided by 1 to 16 without remainder, so every division of the bounds is exact.
 use mathlib.Core.Path.{◌≡◌, refl, ap, sym, ◌∙◌}
-use mathlib.Core.Bool.{Bool, true, false}
 use Prim.Native.Nat.{ℕ, zero, suc, ◌+◌, ◌-◌, ◌*◌, ◌/◌, ◌≤◌, ◌<◌}
 use native.Mathlib.Nat.{mul-div_cancel, le-div_iff_mul-le, div-mul-le_self, mul-le-mul_left, div-le_self}
 use native.Mathlib.Omega.{arith}

@@ -1,16 +1,16 @@
 -- The tests `finished` and `ready` tell which vertices are finished and ready, in every graph without a cycle.
-use mathlib.Core.Path.{◌≡◌, refl, ap, sym, ◌∙◌, fun_ext}
-use mathlib.Core.Bool.{Bool, true, false, not, ◌&&◌, ◌||◌}
-use Prim.Native.Nat.{ℕ, zero, suc, ◌+◌, ◌≤◌, ◌<◌}
+use mathlib.Core.Path.{◌≡◌, refl}
+use mathlib.Core.Bool.{Bool, true, not, ◌||◌}
+use Prim.Native.Nat.{ℕ, zero, suc, ◌<◌}
 use native.Mathlib.Omega.{arith}
 use lib.Dec.{eqb}
 use borrow.Author.Tests.{eq-eqb, eqb-true}
 use Rattle.model.specs.Places.{every, Tells}
-use Rattle.model.specs.Graph.{Graph, Edge, WellFormed}
+use Rattle.model.specs.Graph.{Graph, WellFormed}
 use Rattle.model.specs.Cycle.{Acyclic, Ranked}
 use Rattle.model.specs.Schedule.{Finished, done, Ready}
 use Rattle.model.specs.ListSchedule.{finished_within, finished, ready}
-use Rattle.model.proofs.Bools.{clash, cases, not-true, true-not, not-is-true, both, left-of, right_of, imp, imp_intro, same_test}
+use Rattle.model.proofs.Bools.{clash, not-true, true-not, not-is-true, both, left-of, right_of, imp, imp_intro, same_test}
 use Rattle.model.proofs.Places.{every-at, every_intro, every_ext}
 use Rattle.model.proofs.Cycles.{ranked, rank_below}
 use Rattle.model.proofs.Finished.{fin_left, fin_before}

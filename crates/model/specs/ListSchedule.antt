@@ -13,8 +13,8 @@
 --   listSchedule G e   the list schedule of G with the times e
 --   Fair G s           no more vertices of a kind are marked than it has cores
 --   leap G d s         the state after d ticks in which the same vertices run   (proofs/Leap: d steps, while none of them finishes before)
-use Rattle.std.specs.Prelude.{Bool, true, false, not, ◌&&◌, ◌||◌, ℕ, zero, suc, ◌-◌, ◌≤◌, ◌<◌, eqb, ltb}
-use Rattle.model.specs.Places.{pick, bit, count, every}
+use Rattle.std.specs.Prelude.{Bool, false, not, ◌&&◌, ◌||◌, ℕ, zero, suc, ◌-◌, ◌≤◌, ◌<◌, eqb, ltb}
+use Rattle.model.specs.Places.{pick, count, every}
 use Rattle.model.specs.Graph.{Graph}
 use Rattle.model.specs.Schedule.{Schedule}
 
