@@ -6,6 +6,8 @@ pub mod given;
 mod net;
 pub mod word;
 
+ghost use Rattle.std.specs.Io.{ReadsAtMost};
+
 use std::env::FillError;
 use std::io::{Cursor, Error, Read, Write};
 use std::rt::{Env, Files};
@@ -33,14 +35,12 @@ pub struct Input {
 
 // How many bytes of it stand before the number that std puts behind the system's words.
 fn words(t: &[u8]) -> usize {
-    let mut n = 0;
-    while n < t.len() {
+    for n in 0..t.len() {
         if t[n] == b'(' {
             return n.saturating_sub(1);
         }
-        n += 1;
     }
-    n
+    t.len()
 }
 
 // Says why, in the system's words.
@@ -84,7 +84,9 @@ fn unread(name: &[u8], why: Error) -> Input {
 }
 
 // Some bytes more.
-fn some<R: Read>(from: &mut R, room: &mut [u8]) -> Result<usize, Error> {
+fn some<R: Read>(from: &mut R, room: &mut [u8]) -> Result<usize, Error>
+    ensures { ReadsAtMost result room.new }
+{
     from.read(room)
 }
 
