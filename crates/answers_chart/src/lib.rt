@@ -9,6 +9,7 @@ use board::Names;
 use chart::Told;
 use graph::{Answer, Graph, Refusal};
 use replay::Replayed;
+use std::rt::{Env, Files};
 
 // The argument that names the times or the log.
 const GIVEN: usize = 3;
@@ -66,37 +67,46 @@ fn drawn(t: &[u8], names: Names, g: Graph, log: &[u8], what: u8, refusal: Refusa
 }
 
 // A log that is not in form can't be drawn.
-fn shown(t: &[u8], names: Names, g: Graph, file: &[u8], log: &[u8], what: u8) -> u8
+fn shown(rt: &impl Env, t: &[u8], names: Names, g: Graph, file: &[u8], log: &[u8], what: u8) -> u8
     requires { AcceptedGraph g }
 {
     let form = formed::judge(log, g.n);
     match form {
-        Answer::Refused(r) => answers_runs::recorded::refused(log, t, names, g.n, r),
+        Answer::Refused(r) => answers_runs::recorded::refused(rt, log, t, names, g.n, r),
         Answer::Accepted => drawn(t, names, g, log, what, judged(file, log)),
     }
 }
 
 // The run at every stage's WCET. A run of 128 stages has 256 records at the most.
-pub fn full(t: &[u8], names: Names, g: Graph, file: &[u8]) -> u8
+pub fn full(rt: &impl Env, t: &[u8], names: Names, g: Graph, file: &[u8]) -> u8
     requires { AcceptedGraph g }
 {
     let mut room = [0u8; 2048];
-    let made = answers_runs::recorded::at_wcets(t, g, file, &mut room);
-    if made.status != input::ANSWER {
-        return made.status;
-    }
-    shown(t, names, g, file, texts::part(&room, 0, made.n), chart::RUN)
-}
-
-fn timed(t: &[u8], names: Names, g: Graph, file: &[u8], said: &[u8]) -> u8
-    requires { AcceptedGraph g }
-{
-    let mut room = [0u8; 2048];
-    let made = answers_runs::recorded::with_text(t, names, g, file, said, &mut room);
+    let made = answers_runs::recorded::at_wcets(rt, t, g, file, &mut room);
     if made.status != input::ANSWER {
         return made.status;
     }
     shown(
+        rt,
+        t,
+        names,
+        g,
+        file,
+        texts::part(&room, 0, made.n),
+        chart::RUN,
+    )
+}
+
+fn timed(rt: &impl Env, t: &[u8], names: Names, g: Graph, file: &[u8], said: &[u8]) -> u8
+    requires { AcceptedGraph g }
+{
+    let mut room = [0u8; 2048];
+    let made = answers_runs::recorded::with_text(rt, t, names, g, file, said, &mut room);
+    if made.status != input::ANSWER {
+        return made.status;
+    }
+    shown(
+        rt,
         t,
         names,
         g,
@@ -115,17 +125,17 @@ fn is_text(said: &[u8]) -> bool {
 }
 
 // The run at the times, or the log, that argument 3 names.
-pub fn given(t: &[u8], names: Names, g: Graph, file: &[u8]) -> u8
+pub fn given(rt: &(impl Env + Files + Input), t: &[u8], names: Names, g: Graph, file: &[u8]) -> u8
     requires { AcceptedGraph g }
 {
     let mut space = [0u8; 65537];
-    let got = input::read(GIVEN, &mut space);
+    let got = input::read(rt, GIVEN, &mut space);
     if !got.good {
         return input::TROUBLE;
     }
     let said = texts::part(&space, 0, got.n);
     if is_text(said) {
-        return timed(t, names, g, file, said);
+        return timed(rt, t, names, g, file, said);
     }
-    shown(t, names, g, file, said, chart::FRAME)
+    shown(rt, t, names, g, file, said, chart::FRAME)
 }

@@ -10,6 +10,7 @@ ghost use Rattle.graph.specs.Model.{AcceptedGraph};
 
 use board::Names;
 use graph::{Answer, Graph, Refusal};
+use std::rt::{Env, Files};
 
 // The arguments that name the files.
 pub const FIRST: usize = 2;
@@ -17,11 +18,11 @@ pub const FIRST: usize = 2;
 pub const SECOND: usize = 3;
 
 // The refusal of a graph file, and which of the two it is.
-pub fn refused(k: usize, r: Refusal) -> u8 {
+pub fn refused(rt: &impl Env, k: usize, r: Refusal) -> u8 {
     let which = if k == FIRST {
-        say::out::refused(r) & say::out::argument(k) & say::out::text(b": the first file\n")
+        say::out::refused(r) & say::out::argument(rt, k) & say::out::text(b": the first file\n")
     } else {
-        say::out::refused(r) & say::out::argument(k) & say::out::text(b": the second file\n")
+        say::out::refused(r) & say::out::argument(rt, k) & say::out::text(b": the second file\n")
     };
     input::status(which, input::NO)
 }
@@ -43,13 +44,13 @@ fn with(t: &[u8], names: Names, g: Graph, u: &[u8], other: Names, h: Graph) -> u
     )
 }
 
-fn taken(t: &[u8], names: Names, g: Graph, u: &[u8], other: Names, file: &[u8]) -> u8
+fn taken(rt: &impl Env, t: &[u8], names: Names, g: Graph, u: &[u8], other: Names, file: &[u8]) -> u8
     requires { AcceptedGraph g }
 {
     let taken = reader::read(file);
     let answer = taken.answer;
     match answer {
-        Answer::Refused(r) => refused(SECOND, r),
+        Answer::Refused(r) => refused(rt, SECOND, r),
         Answer::Accepted => {
             let h = taken.graph;
             with(t, names, g, u, other, h)
@@ -57,26 +58,26 @@ fn taken(t: &[u8], names: Names, g: Graph, u: &[u8], other: Names, file: &[u8]) 
     }
 }
 
-fn judged(t: &[u8], names: Names, g: Graph, u: &[u8]) -> u8
+fn judged(rt: &impl Env, t: &[u8], names: Names, g: Graph, u: &[u8]) -> u8
     requires { AcceptedGraph g }
 {
     let mut room = [0u8; 9304];
-    let made = input::given::file(SECOND, u, false, &mut room);
+    let made = input::given::file(rt, SECOND, u, false, &mut room);
     if made.status != input::ANSWER {
         return made.status;
     }
     let other = made.names;
-    taken(t, names, g, u, other, texts::part(&room, 0, made.n))
+    taken(rt, t, names, g, u, other, texts::part(&room, 0, made.n))
 }
 
 // The first file against the one that argument 3 names.
-pub fn answer(t: &[u8], names: Names, g: Graph) -> u8
+pub fn answer(rt: &(impl Env + Files + Input), t: &[u8], names: Names, g: Graph) -> u8
     requires { AcceptedGraph g }
 {
     let mut space = [0u8; 65537];
-    let got = input::read(SECOND, &mut space);
+    let got = input::read(rt, SECOND, &mut space);
     if !got.good {
         return input::TROUBLE;
     }
-    judged(t, names, g, texts::part(&space, 0, got.n))
+    judged(rt, t, names, g, texts::part(&space, 0, got.n))
 }

@@ -6,6 +6,7 @@ use board::Names;
 use graph::{Answer, Refusal};
 use input::word;
 use say::out;
+use std::rt::Env;
 
 // The arguments that name the type and the limit.
 const TYPE: usize = 3;
@@ -54,11 +55,11 @@ fn with_words(t: &[u8], names: Names, file: &[u8], w: &[u8], limit: &[u8]) -> u8
     answer(file, w, k.number, word::number(limit))
 }
 
-pub fn fewest(t: &[u8], names: Names, file: &[u8]) -> u8 {
+pub fn fewest(rt: &impl Env, t: &[u8], names: Names, file: &[u8]) -> u8 {
     let mut kind = io::buffer();
     let mut limit = io::buffer();
-    let k = input::argument(TYPE, &mut kind);
-    let l = input::argument(TICKS, &mut limit);
+    let k = input::argument(rt, TYPE, &mut kind);
+    let l = input::argument(rt, TICKS, &mut limit);
     if !(k.good & l.good) {
         return input::wrong(b"TYPE and TICKS have at most 4096 bytes");
     }

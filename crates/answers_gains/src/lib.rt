@@ -9,6 +9,7 @@ use board::Names;
 use gains::Gained;
 use graph::{Graph, Refusal};
 use input::word;
+use std::rt::Env;
 
 // The arguments that name the stage and its new WCET.
 const STAGE: usize = 3;
@@ -74,13 +75,13 @@ fn with_words(t: &[u8], names: Names, g: Graph, file: &[u8], stage: &[u8], wcet:
 }
 
 // The gains with the WCET of one stage altered.
-pub fn altered(t: &[u8], names: Names, g: Graph, file: &[u8]) -> u8
+pub fn altered(rt: &impl Env, t: &[u8], names: Names, g: Graph, file: &[u8]) -> u8
     requires { AcceptedGraph g }
 {
     let mut stage = io::buffer();
     let mut wcet = io::buffer();
-    let s = input::argument(STAGE, &mut stage);
-    let w = input::argument(WCET, &mut wcet);
+    let s = input::argument(rt, STAGE, &mut stage);
+    let w = input::argument(rt, WCET, &mut wcet);
     if !(s.good & w.good) {
         return input::wrong(b"STAGE and WCET have at most 4096 bytes");
     }

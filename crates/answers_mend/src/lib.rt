@@ -7,6 +7,7 @@ mod output;
 
 use graph::Refusal;
 use mends::Mended;
+use std::rt::{Env, Files};
 
 // The arguments that name the file and where the mended one goes.
 const FILE: usize = 2;
@@ -14,19 +15,19 @@ const FILE: usize = 2;
 const OUT: usize = 3;
 
 // What the refusal is about: `mend` has no others, as the rooms are enough.
-fn reason(r: Refusal) -> bool {
+fn reason(rt: &impl Env, r: Refusal) -> bool {
     let number = r.number;
     match number {
-        1 => say::out::argument(FILE)
+        1 => say::out::argument(rt, FILE)
             & say::out::text(b": not a number of records of 8 bytes, or more than 9296 bytes\n"),
         2 => {
-            let first = say::out::argument(FILE)
+            let first = say::out::argument(rt, FILE)
                 & say::out::text(b": record")
                 & say::out::field(r.place as u64);
             first & say::out::text(b" is of no known kind\n")
         }
         _ => {
-            let first = say::out::argument(FILE)
+            let first = say::out::argument(rt, FILE)
                 & say::out::text(b": record")
                 & say::out::field(r.place as u64);
             first & say::out::text(b" stands behind one of a later kind\n")
@@ -35,15 +36,15 @@ fn reason(r: Refusal) -> bool {
 }
 
 // The mended file goes first: where it can't be written, nothing is said to have been done.
-fn kept(file: &[u8], out: &[u8], list: &[u8]) -> u8 {
-    if !output::new(OUT, out) {
+fn kept(rt: &(impl Env + Files), file: &[u8], out: &[u8], list: &[u8]) -> u8 {
+    if !output::new(rt, OUT, out) {
         return input::TROUBLE;
     }
     input::status(lines::all(file, out, list), input::ANSWER)
 }
 
 // The mended file is no longer than the file, and each record has two mends at most.
-fn mended(file: &[u8]) -> u8 {
+fn mended(rt: &(impl Env + Files), file: &[u8]) -> u8 {
     let mut out = [0u8; 9304];
     let mut list = [0u8; 18608];
     let got = mend::mend(file, &mut out, &mut list);
@@ -52,6 +53,7 @@ fn mended(file: &[u8]) -> u8 {
             let to = sizes.file;
             let listed = sizes.list;
             kept(
+                rt,
                 file,
                 texts::part(&out, 0, to),
                 texts::part(&list, 0, listed),
@@ -59,20 +61,20 @@ fn mended(file: &[u8]) -> u8 {
         }
         Mended::Refused(r) => {
             let first = say::out::refused(r);
-            input::status(first & reason(r), input::NO)
+            input::status(first & reason(rt, r), input::NO)
         }
     }
 }
 
 // Of a longer file only that it is longer matters.
-pub fn answer() -> u8 {
-    if input::is_standard(OUT) {
+pub fn answer(rt: &(impl Env + Files + Input)) -> u8 {
+    if input::is_standard(rt, OUT) {
         return input::wrong(b"OUT is a file, and not standard output");
     }
     let mut space = [0u8; 9304];
-    let got = input::read(FILE, &mut space);
+    let got = input::read(rt, FILE, &mut space);
     if !got.good {
         return input::TROUBLE;
     }
-    mended(texts::part(&space, 0, got.n))
+    mended(rt, texts::part(&space, 0, got.n))
 }

@@ -1,38 +1,53 @@
 // A file that is made, and never one that is there: so the file that was read is never touched, whatever names it goes by.
+use std::fs::{OpenFile, OpenOptions};
+use std::io::{Error, Write};
+use std::rt::{Env, Files};
 
-// Writes the bytes; whether they are all there. Else what went wrong has been said.
-fn filled(fd: i32, name: &[u8], bytes: &[u8]) -> bool {
-    let all = io::write_all(fd, bytes);
-    if !all {
-        input::trouble(name);
+// Whether it went well. Else what went wrong has been said.
+fn well(name: &[u8], done: Result<(), Error>) -> bool {
+    match done {
+        Ok(()) => true,
+        Err(why) => {
+            input::trouble(name, why);
+            false
+        }
     }
-    let shut = libc::close(fd) == 0;
-    if all & !shut {
-        input::trouble(name);
-    }
-    all & shut
 }
 
-fn made(name: &[u8], bytes: &[u8]) -> bool {
-    let fd = os::create(name);
-    if fd < 0 {
-        input::trouble(name);
+// Writes the bytes; whether they are all there. Else what went wrong has been said.
+fn filled<F: Write + OpenFile>(file: &mut F, name: &[u8], bytes: &[u8]) -> bool {
+    if !well(name, file.write_all(bytes)) {
         return false;
     }
-    let all = filled(fd, name, bytes);
+    well(name, file.sync_all())
+}
+
+fn made(rt: &impl Files, name: &[u8], bytes: &[u8]) -> bool {
+    let path = match input::path(name) {
+        Ok(path) => path,
+        Err(why) => return well(name, Err(why)),
+    };
+    let mut file = match OpenOptions::new()
+        .write(true)
+        .create_new(true)
+        .open(rt, path)
+    {
+        Ok(file) => file,
+        Err(why) => return well(name, Err(why)),
+    };
+    let all = filled(&mut file, name, bytes);
+    drop(file);
     if !all {
-        os::unlink(name);
+        let _ = std::fs::remove_file(rt, path);
     }
     all
 }
 
 // Makes the file that argument k names, of these bytes; whether it is there, whole.
-pub(crate) fn new(k: usize, bytes: &[u8]) -> bool {
+pub(crate) fn new(rt: &(impl Env + Files), k: usize, bytes: &[u8]) -> bool {
     let mut name = io::buffer();
-    let got = input::argument(k, &mut name);
-    if !got.good {
-        input::trouble(b"a name");
-        return false;
+    match input::taken(rt, k, &mut name) {
+        Ok(n) => made(rt, texts::part(&name, 0, n), bytes),
+        Err(why) => well(b"a name", Err(why)),
     }
-    made(texts::part(&name, 0, got.n), bytes)
 }

@@ -5,18 +5,19 @@ use crate::{run, times};
 use board::Names;
 use graph::{Answer, Graph};
 use input::word;
+use std::rt::{Env, Files};
 
 // The argument that is the tick.
 const D: usize = 4;
 
-fn answer(stages: usize, file: &[u8], said: &[u8], times: Times, d: u32) -> u8 {
+fn answer(rt: &impl Env, stages: usize, file: &[u8], said: &[u8], times: Times, d: u32) -> u8 {
     let ticks = times.ticks;
     let told = late::late(file, run::front(&ticks, times.n), d);
     let answer = told.answer;
     match answer {
         Answer::Refused(r) => {
             let first = say::out::refused(r);
-            input::status(first & run::reason(said, times, stages, r), input::NO)
+            input::status(first & run::reason(rt, said, times, stages, r), input::NO)
         }
         Answer::Accepted => {
             let written = say::run::late(told.yes, told.played.0);
@@ -26,11 +27,19 @@ fn answer(stages: usize, file: &[u8], said: &[u8], times: Times, d: u32) -> u8 {
 }
 
 // The times are looked at before the tick.
-fn with_words(t: &[u8], names: Names, g: Graph, file: &[u8], said: &[u8], tick: &[u8]) -> u8 {
+fn with_words(
+    rt: &impl Env,
+    t: &[u8],
+    names: Names,
+    g: Graph,
+    file: &[u8],
+    said: &[u8],
+    tick: &[u8],
+) -> u8 {
     let timed = times::of(said, t, names, g);
     let f = timed.fault;
     if f.row != faults::FINE {
-        return input::status(reasons::fault::of_text(TIMES, said, f), input::NO);
+        return input::status(reasons::fault::of_text(rt, TIMES, said, f), input::NO);
     }
     let row = word::fault(tick);
     if row != faults::FINE {
@@ -38,21 +47,22 @@ fn with_words(t: &[u8], names: Names, g: Graph, file: &[u8], said: &[u8], tick: 
         return input::status(wrong, input::NO);
     }
     let times = timed.times;
-    answer(g.n, file, said, times, word::number(tick))
+    answer(rt, g.n, file, said, times, word::number(tick))
 }
 
-pub fn timed(t: &[u8], names: Names, g: Graph, file: &[u8]) -> u8 {
+pub fn timed(rt: &(impl Env + Files + Input), t: &[u8], names: Names, g: Graph, file: &[u8]) -> u8 {
     let mut space = [0u8; 65537];
-    let got = input::read(TIMES, &mut space);
+    let got = input::read(rt, TIMES, &mut space);
     if !got.good {
         return input::TROUBLE;
     }
     let mut tick = io::buffer();
-    let d = input::argument(D, &mut tick);
+    let d = input::argument(rt, D, &mut tick);
     if !d.good {
         return input::wrong(b"D has at most 4096 bytes");
     }
     with_words(
+        rt,
         t,
         names,
         g,

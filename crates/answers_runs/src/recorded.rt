@@ -4,23 +4,30 @@ use crate::{run, times};
 use board::Names;
 use graph::{Graph, Refusal};
 use replay::Replayed;
+use std::rt::{Env, Files};
 use writer::Wrote;
 
 // The argument that names the log.
 const LOG: usize = 3;
 
 // A log that is refused is of the graph, and says no; the stage that it says no to is called as the answers call it.
-pub fn refused(log: &[u8], t: &[u8], names: Names, stages: usize, r: Refusal) -> u8 {
+pub fn refused(rt: &impl Env, log: &[u8], t: &[u8], names: Names, stages: usize, r: Refusal) -> u8 {
     let first = say::out::refused(r);
     input::status(
-        first & reasons::log::of_log(LOG, log, t, names, stages, r),
+        first & reasons::log::of_log(rt, LOG, log, t, names, stages, r),
         input::NO,
     )
 }
 
-pub fn replayed(t: &[u8], names: Names, g: Graph, file: &[u8]) -> u8 {
+pub fn replayed(
+    rt: &(impl Env + Files + Input),
+    t: &[u8],
+    names: Names,
+    g: Graph,
+    file: &[u8],
+) -> u8 {
     let mut space = [0u8; 65537];
-    let got = input::read(LOG, &mut space);
+    let got = input::read(rt, LOG, &mut space);
     if !got.good {
         return input::TROUBLE;
     }
@@ -32,7 +39,7 @@ pub fn replayed(t: &[u8], names: Names, g: Graph, file: &[u8]) -> u8 {
             let written = say::run::lines(t, names, f.0, run::front(&list, g.n));
             input::status(written, input::ANSWER)
         }
-        Replayed::Refused(r) => refused(log, t, names, g.n, r),
+        Replayed::Refused(r) => refused(rt, log, t, names, g.n, r),
     }
 }
 
@@ -44,7 +51,14 @@ pub struct Made {
 }
 
 // The log of the run with the times that the text `said` gave, laid in a room.
-fn logged(stages: usize, file: &[u8], said: &[u8], times: Times, room: &mut [u8]) -> Made {
+fn logged(
+    rt: &impl Env,
+    stages: usize,
+    file: &[u8],
+    said: &[u8],
+    times: Times,
+    room: &mut [u8],
+) -> Made {
     let ticks = times.ticks;
     let wrote = logs::log(file, run::front(&ticks, times.n), room);
     match wrote {
@@ -54,7 +68,7 @@ fn logged(stages: usize, file: &[u8], said: &[u8], times: Times, room: &mut [u8]
         },
         Wrote::Refused(r) => {
             let first = say::out::refused(r);
-            let status = input::status(first & run::reason(said, times, stages, r), input::NO);
+            let status = input::status(first & run::reason(rt, said, times, stages, r), input::NO);
             Made { status, n: 0 }
         }
     }
@@ -62,6 +76,7 @@ fn logged(stages: usize, file: &[u8], said: &[u8], times: Times, room: &mut [u8]
 
 // The log of the run at the times of a text.
 pub fn with_text(
+    rt: &impl Env,
     t: &[u8],
     names: Names,
     g: Graph,
@@ -72,16 +87,16 @@ pub fn with_text(
     let timed = times::of(said, t, names, g);
     let f = timed.fault;
     if f.row != faults::FINE {
-        let status = input::status(reasons::fault::of_text(TIMES, said, f), input::NO);
+        let status = input::status(reasons::fault::of_text(rt, TIMES, said, f), input::NO);
         return Made { status, n: 0 };
     }
     let times = timed.times;
-    logged(g.n, file, said, times, room)
+    logged(rt, g.n, file, said, times, room)
 }
 
 // The log of the run at every stage's WCET.
-pub fn at_wcets(t: &[u8], g: Graph, file: &[u8], room: &mut [u8]) -> Made {
-    logged(g.n, file, t, times::full(g), room)
+pub fn at_wcets(rt: &impl Env, t: &[u8], g: Graph, file: &[u8], room: &mut [u8]) -> Made {
+    logged(rt, g.n, file, t, times::full(g), room)
 }
 
 fn said(made: Made, room: &[u8]) -> u8 {
@@ -92,20 +107,20 @@ fn said(made: Made, room: &[u8]) -> u8 {
 }
 
 // The log of the run at the times that argument 3 names. A run of 128 stages has 256 records at the most.
-pub fn timed(t: &[u8], names: Names, g: Graph, file: &[u8]) -> u8 {
+pub fn timed(rt: &(impl Env + Files + Input), t: &[u8], names: Names, g: Graph, file: &[u8]) -> u8 {
     let mut space = [0u8; 65537];
-    let got = input::read(TIMES, &mut space);
+    let got = input::read(rt, TIMES, &mut space);
     if !got.good {
         return input::TROUBLE;
     }
     let mut room = [0u8; 2048];
     let text = texts::part(&space, 0, got.n);
-    let made = with_text(t, names, g, file, text, &mut room);
+    let made = with_text(rt, t, names, g, file, text, &mut room);
     said(made, &room)
 }
 
-pub fn full(t: &[u8], g: Graph, file: &[u8]) -> u8 {
+pub fn full(rt: &impl Env, t: &[u8], g: Graph, file: &[u8]) -> u8 {
     let mut room = [0u8; 2048];
-    let made = at_wcets(t, g, file, &mut room);
+    let made = at_wcets(rt, t, g, file, &mut room);
     said(made, &room)
 }

@@ -3,6 +3,7 @@ use crate::times;
 use board::Names;
 use graph::{Graph, Refusal};
 use schedule::Played;
+use std::rt::{Env, Files};
 
 // The argument that names the times.
 pub(crate) const TIMES: usize = 3;
@@ -17,12 +18,12 @@ pub(crate) struct Times {
 }
 
 // What the text of times has wrong where they are refused.
-pub(crate) fn reason(said: &[u8], times: Times, stages: usize, r: Refusal) -> bool {
+pub(crate) fn reason(rt: &impl Env, said: &[u8], times: Times, stages: usize, r: Refusal) -> bool {
     if r.number != 14 {
-        return reasons::fault::counted(TIMES, times.n, stages);
+        return reasons::fault::counted(rt, TIMES, times.n, stages);
     }
     let v = (r.place % 128) as usize;
-    reasons::fault::said(TIMES, said, faults::TIME, times.start[v], times.end[v])
+    reasons::fault::said(rt, TIMES, said, faults::TIME, times.start[v], times.end[v])
 }
 
 pub(crate) fn front(list: &[u32], n: usize) -> &[u32] {
@@ -30,7 +31,15 @@ pub(crate) fn front(list: &[u32], n: usize) -> &[u32] {
 }
 
 // The run of a file of so many stages, with times that the text `said` gave.
-fn answer(t: &[u8], names: Names, stages: usize, file: &[u8], said: &[u8], times: Times) -> u8 {
+fn answer(
+    rt: &impl Env,
+    t: &[u8],
+    names: Names,
+    stages: usize,
+    file: &[u8],
+    said: &[u8],
+    times: Times,
+) -> u8 {
     let ticks = times.ticks;
     let mut list = [0u32; 128];
     let played = schedule::run(file, front(&ticks, times.n), &mut list);
@@ -41,33 +50,33 @@ fn answer(t: &[u8], names: Names, stages: usize, file: &[u8], said: &[u8], times
         }
         Played::Refused(r) => {
             let first = say::out::refused(r);
-            input::status(first & reason(said, times, stages, r), input::NO)
+            input::status(first & reason(rt, said, times, stages, r), input::NO)
         }
     }
 }
 
 // The run at the times of a text.
-fn with_text(t: &[u8], names: Names, g: Graph, file: &[u8], said: &[u8]) -> u8 {
+fn with_text(rt: &impl Env, t: &[u8], names: Names, g: Graph, file: &[u8], said: &[u8]) -> u8 {
     let timed = times::of(said, t, names, g);
     let f = timed.fault;
     if f.row != faults::FINE {
-        return input::status(reasons::fault::of_text(TIMES, said, f), input::NO);
+        return input::status(reasons::fault::of_text(rt, TIMES, said, f), input::NO);
     }
     let times = timed.times;
-    answer(t, names, g.n, file, said, times)
+    answer(rt, t, names, g.n, file, said, times)
 }
 
 // The run at the times that argument 3 names.
-pub fn timed(t: &[u8], names: Names, g: Graph, file: &[u8]) -> u8 {
+pub fn timed(rt: &(impl Env + Files + Input), t: &[u8], names: Names, g: Graph, file: &[u8]) -> u8 {
     let mut space = [0u8; 65537];
-    let got = input::read(TIMES, &mut space);
+    let got = input::read(rt, TIMES, &mut space);
     if !got.good {
         return input::TROUBLE;
     }
-    with_text(t, names, g, file, texts::part(&space, 0, got.n))
+    with_text(rt, t, names, g, file, texts::part(&space, 0, got.n))
 }
 
 // The run at every stage's WCET.
-pub fn full(t: &[u8], names: Names, g: Graph, file: &[u8]) -> u8 {
-    answer(t, names, g.n, file, t, times::full(g))
+pub fn full(rt: &impl Env, t: &[u8], names: Names, g: Graph, file: &[u8]) -> u8 {
+    answer(rt, t, names, g.n, file, t, times::full(g))
 }

@@ -5,6 +5,7 @@
 mod numbers;
 mod reason;
 
+use std::rt::{Env, Files};
 use writer::Wrote;
 
 // The arguments that name the text, the cores of each type and the type of each task.
@@ -15,7 +16,7 @@ const CORES: usize = 3;
 const KINDS: usize = 4;
 
 // The answer for a text of at most 65,536 bytes, or of one more.
-fn made(text: &[u8], cores: &[u8], kinds: &[u8]) -> u8 {
+fn made(rt: &impl Env, text: &[u8], cores: &[u8], kinds: &[u8]) -> u8 {
     let mut room = [0u8; 9304];
     let wrote = stg::read(text, cores, kinds, &mut room);
     match wrote {
@@ -25,22 +26,22 @@ fn made(text: &[u8], cores: &[u8], kinds: &[u8]) -> u8 {
         }
         Wrote::Refused(r) => {
             let first = say::out::refused(r);
-            let told = reason::of_reading(TEXT, cores.len(), kinds.len(), r);
+            let told = reason::of_reading(rt, TEXT, cores.len(), kinds.len(), r);
             input::status(first & told, input::NO)
         }
     }
 }
 
 // One type is meant for every task; how many there are is what the text begins with.
-fn with_lists(text: &[u8], cores: &[u8], kinds: &[u8]) -> u8 {
+fn with_lists(rt: &impl Env, text: &[u8], cores: &[u8], kinds: &[u8]) -> u8 {
     if kinds.len() != 1 {
-        return made(text, cores, kinds);
+        return made(rt, text, cores, kinds);
     }
     let all = [kinds[0]; 128];
-    made(text, cores, texts::part(&all, 0, numbers::tasks(text)))
+    made(rt, text, cores, texts::part(&all, 0, numbers::tasks(text)))
 }
 
-fn with_words(text: &[u8], cores: &[u8], kinds: &[u8]) -> u8 {
+fn with_words(rt: &impl Env, text: &[u8], cores: &[u8], kinds: &[u8]) -> u8 {
     let c = numbers::listed(cores);
     if c.row != faults::FINE {
         let wrong = texts::part(cores, c.start, c.end);
@@ -60,26 +61,28 @@ fn with_words(text: &[u8], cores: &[u8], kinds: &[u8]) -> u8 {
     let core_list = c.list;
     let kind_list = k.list;
     with_lists(
+        rt,
         text,
         texts::part(&core_list, 0, c.n),
         texts::part(&kind_list, 0, k.n),
     )
 }
 
-pub fn read() -> u8 {
+pub fn read(rt: &(impl Env + Files + Input)) -> u8 {
     let mut space = [0u8; 65537];
-    let got = input::read(TEXT, &mut space);
+    let got = input::read(rt, TEXT, &mut space);
     if !got.good {
         return input::TROUBLE;
     }
     let mut cores = io::buffer();
-    let c = input::argument(CORES, &mut cores);
+    let c = input::argument(rt, CORES, &mut cores);
     let mut kinds = io::buffer();
-    let k = input::argument(KINDS, &mut kinds);
+    let k = input::argument(rt, KINDS, &mut kinds);
     if !(c.good & k.good) {
         return input::wrong(b"CORES and KINDS have at most 4096 bytes");
     }
     with_words(
+        rt,
         texts::part(&space, 0, got.n),
         texts::part(&cores, 0, c.n),
         texts::part(&kinds, 0, k.n),

@@ -1,15 +1,15 @@
 -- Where lines begin, as a pass meets them.
-use mathlib.Core.Path.{◌≡◌, refl, sym, ◌∙◌, ap}
-use mathlib.Core.Bool.{Bool, true, false, ◌&&◌, ◌||◌}
+use mathlib.Core.Path.{◌≡◌, refl}
+use mathlib.Core.Bool.{Bool, true, false, ◌&&◌}
 use mathlib.Core.List.{List}
-use Prim.Native.Nat.{ℕ, ◌+◌, ◌-◌, ◌≤◌, ◌<◌, min}
+use Prim.Native.Nat.{ℕ, ◌+◌, ◌-◌, ◌≤◌, ◌<◌}
 use native.Mathlib.Omega.{arith}
 use native.Mathlib.Decide.{ℕ_discrete}
 use lib.ListN.{length}
 use lib.Dec.{eqb, ltb}
 use borrow.Author.Tests.{lt-ltb, le-ltb, ne_eqb}
 use Rattle.model.specs.Places.{first}
-use Rattle.model.proofs.Places.{first-at, first-none, first_below, first-here, first-le}
+use Rattle.model.proofs.Places.{first-at, first-none, first_below, first-here}
 use mathlib.Core.Logic.{◌⊎◌, inl, inr}
 use Rattle.model.proofs.Bools.{both, or_right, le-or-lt}
 use Rattle.texts.specs.Text.{byte_at, stops, until, line_after}

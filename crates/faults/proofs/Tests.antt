@@ -1,10 +1,9 @@
 -- Each fault, from what the code tests.
-use mathlib.Core.Path.{◌≡◌, refl, sym, ◌∙◌, ap}
+use mathlib.Core.Path.{◌≡◌, refl, sym, ◌∙◌}
 use mathlib.Core.Bool.{Bool, true, false, not}
 use mathlib.Core.List.{List}
 use Prim.Native.Nat.{ℕ, ◌-◌, ◌≤◌, ◌<◌}
 use lib.ListN.{length}
-use lib.Dec.{eqb, ltb}
 use borrow.Author.Tests.{lt-ltb, le-ltb, eq-eqb, ne_eqb}
 use Rattle.model.proofs.Bools.{not-is-true}
 use Rattle.texts.specs.Text.{byte_at, ends, until, word_at, word_after, which_name, LARGE, number_of}

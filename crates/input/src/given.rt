@@ -5,6 +5,7 @@ use crate::net;
 use crate::net::Net;
 use board::Names;
 use graph::Refusal;
+use std::rt::Env;
 use writer::Wrote;
 
 // The status, and where it is an answer the file's length and the names; else it has been said what is wrong.
@@ -48,31 +49,46 @@ fn laid(t: &[u8], room: &mut [u8]) -> usize {
 }
 
 // A refusal: as JSON, or in lines of which the second says what it is about.
-fn refused(k: usize, t: &[u8], names: Names, lists: Net, r: Refusal, json: bool) -> bool {
+fn refused(
+    rt: &impl Env,
+    k: usize,
+    t: &[u8],
+    names: Names,
+    lists: Net,
+    r: Refusal,
+    json: bool,
+) -> bool {
     if json {
         return say::json::refused(r);
     }
     let edge = lists.edge;
     let first = say::out::refused(r);
-    first & reasons::said(k, t, names, &edge, lists.edges, r)
+    first & reasons::said(rt, k, t, names, &edge, lists.edges, r)
 }
 
 // The file of a board text whose names are known.
-fn looked_up(k: usize, t: &[u8], names: Names, json: bool, room: &mut [u8]) -> Given {
+fn looked_up(
+    rt: &impl Env,
+    k: usize,
+    t: &[u8],
+    names: Names,
+    json: bool,
+    room: &mut [u8],
+) -> Given {
     let lists = net::of(t, names);
     let f = lists.fault;
     if f.row != faults::FINE {
-        return no(reasons::fault::of_board(k, t, f, json), names);
+        return no(reasons::fault::of_board(rt, k, t, f, json), names);
     }
     let wrote = net::write(t, names, lists, room);
     match wrote {
         Wrote::Bytes(n) => yes(n, names),
-        Wrote::Refused(r) => no(refused(k, t, names, lists, r, json), names),
+        Wrote::Refused(r) => no(refused(rt, k, t, names, lists, r, json), names),
     }
 }
 
 // The graph file of what argument k names, whose bytes are t, laid in the room. What is wrong with a board text is said as JSON or not.
-pub fn file(k: usize, t: &[u8], json: bool, room: &mut [u8]) -> Given {
+pub fn file(rt: &impl Env, k: usize, t: &[u8], json: bool, room: &mut [u8]) -> Given {
     if texts::until(t, 0, texts::ZERO) < t.len() {
         let n = laid(t, room);
         return yes(n, board::nameless());
@@ -81,7 +97,7 @@ pub fn file(k: usize, t: &[u8], json: bool, room: &mut [u8]) -> Given {
     let f = b.fault;
     let names = b.names;
     if f.row != faults::FINE {
-        return no(reasons::fault::of_board(k, t, f, json), names);
+        return no(reasons::fault::of_board(rt, k, t, f, json), names);
     }
-    looked_up(k, t, names, json, room)
+    looked_up(rt, k, t, names, json, room)
 }

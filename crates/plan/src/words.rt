@@ -3,6 +3,8 @@ ghost use Rattle.graph.specs.Model.{AcceptedGraph};
 
 use board::Names;
 use graph::{Answer, Graph, Refusal};
+use std::env::FillError;
+use std::rt::{Env, Files};
 
 const SHEET: u8 = 0;
 
@@ -167,35 +169,42 @@ fn alone(word: &[u8]) -> u8 {
 }
 
 // What is said of an accepted file, its graph, and the bytes that gave it.
-fn answered(word: u8, t: &[u8], names: Names, g: Graph, file: &[u8]) -> u8
+fn answered(
+    rt: &(impl Env + Files + Input),
+    word: u8,
+    t: &[u8],
+    names: Names,
+    g: Graph,
+    file: &[u8],
+) -> u8
     requires { AcceptedGraph g }
 {
     match word {
-        1 => answers_runs::run::full(t, names, g, file),
-        2 => answers_runs::run::timed(t, names, g, file),
+        1 => answers_runs::run::full(rt, t, names, g, file),
+        2 => answers_runs::run::timed(rt, t, names, g, file),
         3 => answers::text::file(file),
         4 => answers::text::answer(t, names, g),
         5 => answers_gains::full(t, names, g),
-        6 => answers_gains::altered(t, names, g, file),
-        7 => answers_runs::by_tick::timed(t, names, g, file),
-        8 => answers_runs::recorded::replayed(t, names, g, file),
-        9 => answers_runs::recorded::full(t, g, file),
-        10 => answers_runs::recorded::timed(t, names, g, file),
+        6 => answers_gains::altered(rt, t, names, g, file),
+        7 => answers_runs::by_tick::timed(rt, t, names, g, file),
+        8 => answers_runs::recorded::replayed(rt, t, names, g, file),
+        9 => answers_runs::recorded::full(rt, t, g, file),
+        10 => answers_runs::recorded::timed(rt, t, names, g, file),
         11 => answers_stg::written(file),
-        12 => answers_compare::answer(t, names, g),
-        13 => answers_enough::fewest(t, names, file),
+        12 => answers_compare::answer(rt, t, names, g),
+        13 => answers_enough::fewest(rt, t, names, file),
         14 => answers_json::answer(t, names, g),
-        15 => answers_chart::full(t, names, g, file),
-        16 => answers_chart::given(t, names, g, file),
+        15 => answers_chart::full(rt, t, names, g, file),
+        16 => answers_chart::given(rt, t, names, g, file),
         17 => answers_dot::answer(t, names, g),
         _ => answers::sheet::answer(t, names, g),
     }
 }
 
 // A refusal, as the word has its answers. Of two files it is said which one is refused.
-fn refused(word: u8, r: Refusal) -> u8 {
+fn refused(rt: &impl Env, word: u8, r: Refusal) -> u8 {
     if word == COMPARE {
-        return answers_compare::refused(answers_compare::FIRST, r);
+        return answers_compare::refused(rt, answers_compare::FIRST, r);
     }
     if word == JSON {
         return input::status(say::json::refused(r), input::NO);
@@ -204,37 +213,37 @@ fn refused(word: u8, r: Refusal) -> u8 {
 }
 
 // What is said of a file. The one place that calls the reader, but for the second of two files: a file is read and judged once, and refused here or not at all.
-fn taken(word: u8, t: &[u8], names: Names, file: &[u8]) -> u8 {
+fn taken(rt: &(impl Env + Files + Input), word: u8, t: &[u8], names: Names, file: &[u8]) -> u8 {
     let taken = reader::read(file);
     let answer = taken.answer;
     match answer {
-        Answer::Refused(r) => refused(word, r),
+        Answer::Refused(r) => refused(rt, word, r),
         Answer::Accepted => {
             let g = taken.graph;
-            answered(word, t, names, g, file)
+            answered(rt, word, t, names, g, file)
         }
     }
 }
 
 // What is said of the bytes that argument k names.
-fn judged(word: u8, k: usize, t: &[u8]) -> u8 {
+fn judged(rt: &(impl Env + Files + Input), word: u8, k: usize, t: &[u8]) -> u8 {
     let mut room = [0u8; 9304];
-    let made = input::given::file(k, t, word == JSON, &mut room);
+    let made = input::given::file(rt, k, t, word == JSON, &mut room);
     if made.status != input::ANSWER {
         return made.status;
     }
     let names = made.names;
-    taken(word, t, names, texts::part(&room, 0, made.n))
+    taken(rt, word, t, names, texts::part(&room, 0, made.n))
 }
 
 // What is said of what argument k names.
-fn read(word: u8, k: usize) -> u8 {
+fn read(rt: &(impl Env + Files + Input), word: u8, k: usize) -> u8 {
     let mut space = [0u8; 65537];
-    let got = input::read(k, &mut space);
+    let got = input::read(rt, k, &mut space);
     if !got.good {
         return input::TROUBLE;
     }
-    judged(word, k, texts::part(&space, 0, got.n))
+    judged(rt, word, k, texts::part(&space, 0, got.n))
 }
 
 // Whether argument 3 names something to be read as well.
@@ -246,7 +255,7 @@ fn has_two(word: u8) -> bool {
         | (word == CHART_GIVEN)
 }
 
-fn row(word: u8) -> u8 {
+fn row(rt: &(impl Env + Files + Input), word: u8) -> u8 {
     if word == UNKNOWN {
         return input::wrong(b"not a word of the command, or not so many words");
     }
@@ -257,23 +266,43 @@ fn row(word: u8) -> u8 {
         return input::status(say::help::version(), input::ANSWER);
     }
     if word == FROM_STG {
-        return answers_stg::read();
+        return answers_stg::read(rt);
     }
     if word == MEND {
-        return answers_mend::answer();
+        return answers_mend::answer(rt);
     }
-    if has_two(word) & input::is_standard(2) & input::is_standard(3) {
+    if has_two(word) & input::is_standard(rt, 2) & input::is_standard(rt, 3) {
         return input::wrong(b"standard input can't be the graph and what goes with it");
     }
-    if (word == COMPARE) & input::is_standard(2) & input::is_standard(3) {
+    if (word == COMPARE) & input::is_standard(rt, 2) & input::is_standard(rt, 3) {
         return input::wrong(b"standard input can't be both files");
     }
-    read(word, if word == FILE { 1 } else { 2 })
+    read(rt, word, if word == FILE { 1 } else { 2 })
 }
 
-pub(crate) fn answer() -> u8 {
-    let n = os::arg_count();
+fn is_missing(taken: Result<usize, FillError>) -> bool {
+    match taken {
+        Err(FillError::NotPresent) => true,
+        _ => false,
+    }
+}
+
+// How many arguments there are, the command's own name among them.
+fn count(rt: &impl Env) -> usize {
+    let mut space = [0u8; 1];
+    for k in 0..usize::MAX {
+        if is_missing(rt.arg(k, &mut space)) {
+            return k;
+        }
+    }
+    usize::MAX
+}
+
+pub(crate) fn answer(rt: &(impl Env + Files + Input)) -> u8 {
+    let n = count(rt);
     let mut space = io::buffer();
-    let long = os::arg(1, &mut space);
-    row(number(&space[..long], n))
+    match rt.arg(1, &mut space) {
+        Ok(long) => row(rt, number(&space[..long], n)),
+        Err(_) => row(rt, number(b"", n)),
+    }
 }

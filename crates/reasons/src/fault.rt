@@ -6,6 +6,7 @@ use faults::Fault;
 use quoted::json::name;
 use say::json::member;
 use say::{names, out};
+use std::rt::Env;
 use texts::part;
 
 // The first place from `at` on that has the byte; the text's end where none has.
@@ -110,37 +111,45 @@ fn line(t: &[u8], at: usize) -> u64 {
 }
 
 // The text that argument k names, and the line of a place in it.
-fn placed(k: usize, t: &[u8], at: usize) -> bool {
-    let first = out::argument(k) & out::text(b": line ") & out::number(line(t, at));
+fn placed(rt: &impl Env, k: usize, t: &[u8], at: usize) -> bool {
+    let first = out::argument(rt, k) & out::text(b": line ") & out::number(line(t, at));
     first & out::text(b": ")
 }
 
 // What the text that argument k names gets wrong at a place of it, about a word.
-fn told(k: usize, t: &[u8], fault: usize, at: usize, word: &[u8], json: bool) -> bool {
+fn told(
+    rt: &impl Env,
+    k: usize,
+    t: &[u8],
+    fault: usize,
+    at: usize,
+    word: &[u8],
+    json: bool,
+) -> bool {
     if json {
         let first = member(b"{\"fault\": {\"line\": ", line(t, at));
         return first & saying(fault, word, true);
     }
-    placed(k, t, at) & saying(fault, word, false)
+    placed(rt, k, t, at) & saying(fault, word, false)
 }
 
 // The same with the word from a place to another.
-pub fn said(k: usize, t: &[u8], fault: usize, at: usize, end: usize) -> bool {
-    told(k, t, fault, at, part(t, at, end), false)
+pub fn said(rt: &impl Env, k: usize, t: &[u8], fault: usize, at: usize, end: usize) -> bool {
+    told(rt, k, t, fault, at, part(t, at, end), false)
 }
 
 // The same of a fault that was found in a board text, as JSON or not: the word ends where it does.
-pub fn of_board(k: usize, t: &[u8], f: Fault, json: bool) -> bool {
+pub fn of_board(rt: &impl Env, k: usize, t: &[u8], f: Fault, json: bool) -> bool {
     if f.row == faults::STRANGE {
-        return told_byte(k, t, f.row, f.at, json);
+        return told_byte(rt, k, t, f.row, f.at, json);
     }
     let end = texts::until(t, f.at, texts::END);
-    told(k, t, f.row, f.at, part(t, f.at, end), json)
+    told(rt, k, t, f.row, f.at, part(t, f.at, end), json)
 }
 
 // The same in another text.
-pub fn of_text(k: usize, t: &[u8], f: Fault) -> bool {
-    of_board(k, t, f, false)
+pub fn of_text(rt: &impl Env, k: usize, t: &[u8], f: Fault) -> bool {
+    of_board(rt, k, t, f, false)
 }
 
 fn wide(b: u8) -> u64 {
@@ -148,22 +157,22 @@ fn wide(b: u8) -> u64 {
 }
 
 // The same with the number of the byte at the place.
-fn told_byte(k: usize, t: &[u8], fault: usize, at: usize, json: bool) -> bool {
+fn told_byte(rt: &impl Env, k: usize, t: &[u8], fault: usize, at: usize, json: bool) -> bool {
     let mut digits = [0u8; 20];
     let byte = if at < t.len() { t[at] } else { 0 };
     let n = io::decimal(wide(byte), &mut digits);
-    told(k, t, fault, at, &digits[..n], json)
+    told(rt, k, t, fault, at, &digits[..n], json)
 }
 
 // The same with the name of a type, or of a stage.
-pub fn said_kind(k: usize, t: &[u8], of: Names, fault: usize, i: usize) -> bool {
+pub fn said_kind(rt: &impl Env, k: usize, t: &[u8], of: Names, fault: usize, i: usize) -> bool {
     let at = if i < 10 { of.kind[i] } else { 0 };
-    told(k, t, fault, at, names::of_kind(t, of, i), false)
+    told(rt, k, t, fault, at, names::of_kind(t, of, i), false)
 }
 
-pub fn said_stage(k: usize, t: &[u8], of: Names, fault: usize, v: usize) -> bool {
+pub fn said_stage(rt: &impl Env, k: usize, t: &[u8], of: Names, fault: usize, v: usize) -> bool {
     let at = if v < 128 { of.stage[v] } else { 0 };
-    told(k, t, fault, at, names::of_stage(t, of, v), false)
+    told(rt, k, t, fault, at, names::of_stage(t, of, v), false)
 }
 
 // What is wrong with the argument that `plan help` calls so, which has the word.
@@ -172,7 +181,7 @@ pub fn said_argument(called: &[u8], fault: usize, word: &[u8]) -> bool {
 }
 
 // A text of times, named by argument k, that has another number of them than the graph has stages.
-pub fn counted(k: usize, times: usize, stages: usize) -> bool {
-    let first = out::argument(k) & out::text(b":") & out::field(times as u64);
+pub fn counted(rt: &impl Env, k: usize, times: usize, stages: usize) -> bool {
+    let first = out::argument(rt, k) & out::text(b":") & out::field(times as u64);
     first & out::text(b" times for") & out::field(stages as u64) & out::text(b" stages\n")
 }

@@ -8,6 +8,7 @@ ghost use Rattle.std.specs.Prelude.{◌≤◌, ◌<◌};
 
 use board::Names;
 use graph::Refusal;
+use std::rt::Env;
 
 fn least(a: usize, b: usize) -> usize
     ensures { (result ≤ a) × (result ≤ b) }
@@ -75,22 +76,31 @@ fn waiting(edge: &[u16; 1024], i: usize) -> usize {
 
 // The line of the text, which argument k names, that the writer's refusal of its n edges and its other lists is about. No other number can be: the
 // text's own faults come first.
-pub fn said(k: usize, t: &[u8], names: Names, edge: &[u16; 1024], n: usize, r: Refusal) -> bool {
+pub fn said(
+    rt: &impl Env,
+    k: usize,
+    t: &[u8],
+    names: Names,
+    edge: &[u16; 1024],
+    n: usize,
+    r: Refusal,
+) -> bool {
     let number = r.number;
     let record = r.place as usize;
     let stage = past(record, names.kinds);
     match number {
-        4 => fault::said(k, t, faults::KINDS_NONE, t.len(), t.len()),
-        5 => fault::said_kind(k, t, names, faults::CORES, record),
-        6 => fault::said(k, t, faults::STAGES_NONE, t.len(), t.len()),
-        7 => fault::said_stage(k, t, names, faults::WCET, stage),
+        4 => fault::said(rt, k, t, faults::KINDS_NONE, t.len(), t.len()),
+        5 => fault::said_kind(rt, k, t, names, faults::CORES, record),
+        6 => fault::said(rt, k, t, faults::STAGES_NONE, t.len(), t.len()),
+        7 => fault::said_stage(rt, k, t, names, faults::WCET, stage),
         9 => fault::said_stage(
+            rt,
             k,
             t,
             names,
             faults::ITSELF,
             waiting(edge, past(stage, names.stages)),
         ),
-        _ => fault::said_stage(k, t, names, faults::CYCLE, on_cycle(edge, n)),
+        _ => fault::said_stage(rt, k, t, names, faults::CYCLE, on_cycle(edge, n)),
     }
 }

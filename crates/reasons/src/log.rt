@@ -4,6 +4,7 @@ ghost use Rattle.std.specs.Prelude.{◌≤◌};
 use board::Names;
 use graph::Refusal;
 use say::{names, out};
+use std::rt::Env;
 
 fn wide(b: u8) -> u64
     ensures { result ≤ 255 }
@@ -83,6 +84,14 @@ fn said(log: &[u8], t: &[u8], of: Names, n: usize, r: Refusal) -> bool {
 }
 
 // The log is named by argument k, and the graph has n stages.
-pub fn of_log(k: usize, log: &[u8], t: &[u8], of: Names, n: usize, r: Refusal) -> bool {
-    out::argument(k) & out::text(b": ") & said(log, t, of, n, r) & out::end()
+pub fn of_log(
+    rt: &impl Env,
+    k: usize,
+    log: &[u8],
+    t: &[u8],
+    of: Names,
+    n: usize,
+    r: Refusal,
+) -> bool {
+    out::argument(rt, k) & out::text(b": ") & said(log, t, of, n, r) & out::end()
 }

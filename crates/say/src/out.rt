@@ -1,5 +1,6 @@
 // Text and numbers.
 use graph::Refusal;
+use std::rt::Env;
 
 pub fn text(w: &[u8]) -> bool {
     io::write_all(1, w)
@@ -18,11 +19,13 @@ pub fn field(n: u64) -> bool {
     text(b" ") & number(n)
 }
 
-// What was given as argument k.
-pub fn argument(k: usize) -> bool {
+// What was given as argument k; nothing where it is longer than 4,096 bytes.
+pub fn argument(rt: &impl Env, k: usize) -> bool {
     let mut name = io::buffer();
-    let n = os::arg(k, &mut name);
-    text(&name[..n])
+    match rt.arg(k, &mut name) {
+        Ok(n) => text(&name[..n]),
+        Err(_) => true,
+    }
 }
 
 pub fn refused(r: Refusal) -> bool {
