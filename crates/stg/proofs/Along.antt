@@ -2,12 +2,12 @@
 use mathlib.Core.Path.{◌≡◌, refl, sym, ap, ◌∙◌}
 use mathlib.Core.Bool.{Bool, true, false, not, ◌&&◌}
 use mathlib.Core.List.{List, [], ◌∷◌, ◌++◌, map, append-nil, append_assoc}
-use Prim.Native.Nat.{ℕ, ◌+◌, ◌-◌, ◌≤◌}
+use Prim.Native.Nat.{ℕ, ◌+◌, ◌≤◌}
 use native.Mathlib.Omega.{arith}
 use lib.ListN.{length, drop, length-append}
 use borrow.Author.Tests.{not-false}
 use Rattle.model.proofs.Bools.{clash, not-true, not-is-true}
-use Rattle.stg_text.specs.Fields.{all, value, numerals, numbers}
+use Rattle.stg_text.specs.Fields.{value, numerals, numbers}
 use Rattle.stg_scan.specs.Scan.{token_at}
 use Rattle.stg_scan.specs.Rest.{until_feed, has_feed, past_feed, lawful}
 use Rattle.stg.specs.Rows.{Holds, Taken, LineRead, Lined}

@@ -1,6 +1,5 @@
 use mathlib.Core.Path.{sym, ap, ◌∙◌}
 use Rattle.vset.specs.Members.{is_in}
-use mathlib.Core.Path.{sym, ap, ◌∙◌}
 use native.Mathlib.Omega.{arith}
 use Rattle.formed.proofs.Passing.{fault-unknown, fault_met}
 use Rattle.formed.proofs.faulty.Goals as goal

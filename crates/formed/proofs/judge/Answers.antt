@@ -17,9 +17,9 @@ returns-then-first-log c =
 pub returns-then-not-is_empty : goal.returns-then-not-is_empty
 returns-then-not-is_empty c =
     let y = form_end _ _ (sym c.wrong_length.ensures ∙ c.if-wrong_length.false) _ c.first_fault-found.ensures c.requires c.if-first-log.false _ c.is_empty.ensures in
-    c.malformed-then-not-is_empty.ensures ∙ sym (rw c.if-not-is_empty.true-raw at y)
+    c.malformed-then-not-is_empty.ensures ∙ sym (rw c.if-not-is_empty.true at y)
 
 pub returns : goal.returns
 returns c =
     let y = form_end _ _ (sym c.wrong_length.ensures ∙ c.if-wrong_length.false) _ c.first_fault-found.ensures c.requires c.if-first-log.false _ c.is_empty.ensures in
-    sym (rw c.if-not-is_empty.false-raw at y)
+    sym (rw c.if-not-is_empty.false at y)

@@ -1,7 +1,5 @@
 use mathlib.Core.Path.{sym, ap, ◌∙◌}
 use mathlib.Core.Bool.{Bool, not, ◌&&◌, ◌||◌, and-true}
-use mathlib.Core.Path.{sym, ap, ◌∙◌}
-use mathlib.Core.Bool.{Bool, not, ◌&&◌, ◌||◌, and-true}
 use lib.Dec.{eqb}
 use Rattle.vset.specs.Members.{is_in}
 use Rattle.vset.proofs.Gather.{members_ext}

@@ -12,12 +12,12 @@ loop-j-init c = (search rules, below_none _)
 pub returns-then-not-test : goal.returns-then-not-test
 returns-then-not-test c =
     let l = c.loop-j in
-    (sym (first-at _ _ _ (search rules) l.invariant.1 (sym (ap not c.test.ensures) ∙ c.if-not-test.true-raw)), search rules)
+    (sym (first-at _ _ _ (search rules) l.invariant.1 (ap not (sym c.test.ensures ∙ c.if-not-test.true))), search rules)
 
 pub loop-j-preserved : goal.loop-j-preserved
 loop-j-preserved c =
     let l = c.loop-j in
-    (search rules, below_more _ _ l.invariant.1 (sym (ap not c.test.ensures) ∙ c.if-not-test.false-raw))
+    (search rules, below_more _ _ l.invariant.1 (ap not (sym c.test.ensures ∙ c.if-not-test.false)))
 
 pub returns : goal.returns
 returns c =

@@ -1,0 +1,5 @@
+use Rattle.stg.proofs.Kept.{no-numbers}
+use Rattle.stg.proofs.row.start.Goals as goal
+
+pub returns : goal.returns
+returns c = λ n. no-numbers n c.none-before.result c.none-before.ensures
