@@ -1,0 +1,6 @@
+use mathlib.Core.Path.{◌∙◌, ap}
+use Rattle.codes.specs.CodedRun.{coded_play_of}
+use Rattle.planner.proofs.planner_run.Goals as goal
+
+pub returns : goal.returns
+returns c = (c.coded_play.ensures ∙ ap coded_play_of c.run.ensures.0, c.run.ensures.1)
