@@ -10,7 +10,7 @@ use Rattle.stg_text.specs.Canonical.{decimal}
 use Rattle.stg_line.specs.Laid.{tailed}
 use Rattle.stg_line.proofs.Laying.{Put, put_then, put-long, put_byte, task-parts, task-long, those_count}
 use Rattle.stg_line.proofs.put_task.Goals as goal
-use Rattle.stg_line.proofs.put_task.Goals.{After-put-a, After-put_field-b, After-put_field-c, After-put_members-d, After-size-count, After-slice_known-5-1}
+use Rattle.stg_line.proofs.put_task.Goals.{After-put-a, After-put_field-b, After-put_field-c, After-put_members-d, After-size-count}
 
 -- how many predecessors there are
 many : (c : After-size-count) → c.size-count.result ≡ length (that (is_in c.args.before) 128)
@@ -39,12 +39,12 @@ with-members : (c : After-put_members-d)
 with-members c = put_then _ _ _ _ _ _ _ _ (with-count (goal.at.After-put_members-d c).After-put_field-c) (record { is = c.put_members-d.ensures.0; laid = c.put_members-d.ensures.1 })
 
 -- the line feed has room
-here : (c : After-slice_known-5-1) → c.put_members-d.result < length c.put_members-d.new.out
+here : (c : After-put_members-d) → c.put_members-d.result < length c.put_members-d.new.out
 here c =
     let a = c.args in
     let fits = c.requires.2 in
     let long = task-long a.v a.time (is_in a.before) in
-    let P = with-members (goal.at.After-slice_known-5-1 c).After-put_members-d in
+    let P = with-members c in
     let same = put-long _ _ _ _ _ P in
     let x : List ℕ = 32 ∷ decimal a.time in
     let y : List ℕ = 32 ∷ decimal (length (that (is_in a.before) 128)) in
@@ -92,10 +92,10 @@ put_members-d-requires c =
     omega (arith, P.is)
 
 pub bounds-out-d : goal.bounds-out-d
-bounds-out-d c = here c
+bounds-out-d c = here (goal.at.bounds-out-d c).After-put_members-d
 
 pub overflow_add-result : goal.overflow_add-result
-overflow_add-result c = omega (arith, here c)
+overflow_add-result c = omega (arith, here (goal.at.overflow_add-result c).After-put_members-d)
 
 pub shape_of-out : goal.shape_of-out
 shape_of-out c =

@@ -4,8 +4,8 @@ use native.Mathlib.Omega.{arith}
 use mathlib.Core.Bool.{true, false, ◌&&◌}
 use lib.ListN.{get_or}
 use lib.Dec.{ltb}
-use borrow.Author.Tests.{ltb-true, not-false}
-use Rattle.model.proofs.Bools.{left-of, right_of, not-is-true}
+use borrow.Author.Tests.{ltb-true}
+use Rattle.model.proofs.Bools.{left-of, right_of}
 use Rattle.stg_text.specs.Fields.{digit}
 use borrow.Author.Rules.{rules}
 use Rattle.stg_scan.specs.Scan.{parts}
@@ -28,7 +28,7 @@ returns-then-not-digit-k c =
     let s = c.args.text.now in
     let byte : c.byte-c.result ≡ get_or s l.i 0 = c.byte-c.ensures.0 in
     let p : parts (get_or s l.i 0) ≡ false = rw (← byte, ← c.parts.ensures) c.if-parts.false in
-    let d : digit (get_or s l.i 0) && ltb l.k 10 ≡ false = rw (← byte, ← c.digit.ensures) (not-is-true (c.digit.result && ltb l.k 10) c.if-not-digit-k.true-raw) in
+    let d : digit (get_or s l.i 0) && ltb l.k 10 ≡ false = rw (← byte, ← c.digit.ensures) c.if-not-digit-k.true in
     sym (scan-bad s l.i l.k l.x (search rules) p d) ∙ l.invariant.3
 
 pub overflow_mul-x : goal.overflow_mul-x
@@ -36,7 +36,7 @@ overflow_mul-x c =
     let l = c.loop-i in
     let s = c.args.text.now in
     let r = c.byte-c.result in
-    let d : digit r && ltb l.k 10 ≡ true = rw (← c.digit.ensures) (not-false (c.digit.result && ltb l.k 10) c.if-not-digit-k.false-raw) in
+    let d : digit r && ltb l.k 10 ≡ true = rw (← c.digit.ensures) c.if-not-digit-k.false in
     let f = digit-from r (left-of (digit r) (ltb l.k 10) d) in
     let k : l.k < 10 = ltb-true l.k 10 (right_of (digit r) (ltb l.k 10) d) in
     let x : l.x < 1000000000 = below_ten l.k l.x k l.invariant.2 in
@@ -47,7 +47,7 @@ overflow_sub-x c =
     let l = c.loop-i in
     let s = c.args.text.now in
     let r = c.byte-c.result in
-    let d : digit r && ltb l.k 10 ≡ true = rw (← c.digit.ensures) (not-false (c.digit.result && ltb l.k 10) c.if-not-digit-k.false-raw) in
+    let d : digit r && ltb l.k 10 ≡ true = rw (← c.digit.ensures) c.if-not-digit-k.false in
     let f = digit-from r (left-of (digit r) (ltb l.k 10) d) in
     let k : l.k < 10 = ltb-true l.k 10 (right_of (digit r) (ltb l.k 10) d) in
     let x : l.x < 1000000000 = below_ten l.k l.x k l.invariant.2 in
@@ -58,7 +58,7 @@ overflow_add-x c =
     let l = c.loop-i in
     let s = c.args.text.now in
     let r = c.byte-c.result in
-    let d : digit r && ltb l.k 10 ≡ true = rw (← c.digit.ensures) (not-false (c.digit.result && ltb l.k 10) c.if-not-digit-k.false-raw) in
+    let d : digit r && ltb l.k 10 ≡ true = rw (← c.digit.ensures) c.if-not-digit-k.false in
     let f = digit-from r (left-of (digit r) (ltb l.k 10) d) in
     let k : l.k < 10 = ltb-true l.k 10 (right_of (digit r) (ltb l.k 10) d) in
     let x : l.x < 1000000000 = below_ten l.k l.x k l.invariant.2 in
@@ -71,7 +71,7 @@ loop-i-preserved c =
     let byte : c.byte-c.result ≡ get_or s l.i 0 = c.byte-c.ensures.0 in
     let p : parts (get_or s l.i 0) ≡ false = rw (← byte, ← c.parts.ensures) c.if-parts.false in
     let r = c.byte-c.result in
-    let d : digit r && ltb l.k 10 ≡ true = rw (← c.digit.ensures) (not-false (c.digit.result && ltb l.k 10) c.if-not-digit-k.false-raw) in
+    let d : digit r && ltb l.k 10 ≡ true = rw (← c.digit.ensures) c.if-not-digit-k.false in
     let f = digit-from r (left-of (digit r) (ltb l.k 10) d) in
     let k : l.k < 10 = ltb-true l.k 10 (right_of (digit r) (ltb l.k 10) d) in
     (search rules, omega arith, digit-more l.k l.x (r - 48) l.invariant.2 (omega arith), rw byte (sym (scan-more s l.i l.k l.x (search rules) p (rw byte at d)) ∙ l.invariant.3))

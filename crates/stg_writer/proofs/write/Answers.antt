@@ -4,7 +4,7 @@ use Rattle.stg_writer.proofs.write.Goals as goal
 
 pub written-requires : goal.written-requires
 written-requires c =
-    (usable _ _ _ _ _ _ _ _ c.take-h.ensures (λ i. (c.shared_slice_known-1.given i).fits) c.in-Accepted.is).accepted
+    (usable _ _ _ _ _ _ _ _ c.take-h.ensures (λ i. (c.type_inv.file i).fits) c.in-Accepted.is).accepted
 
 pub returns-in-Refused : goal.returns-in-Refused
 returns-in-Refused c =

@@ -1,5 +1,5 @@
-use mathlib.Core.Path.{◌≡◌}
-use mathlib.Core.Bool.{true}
+use mathlib.Core.Path.{ap, ◌≡◌}
+use mathlib.Core.Bool.{not, true}
 use Prim.Native.Nat.{◌<◌}
 use native.Mathlib.Omega.{arith}
 use borrow.Author.Rules.{rules}
@@ -13,11 +13,11 @@ pub loop-rest-init : goal.loop-rest-init
 loop-rest-init c = spreading_none c.args.after.now (is_in c.args.set) c.args.v c.requires.1
 
 pub next-next-requires : goal.next-next-requires
-next-next-requires c = some_in (is_in c.loop-rest.rest) c.is_empty.result c.is_empty.ensures c.loop-rest-test.true-raw
+next-next-requires c = some_in (is_in c.loop-rest.rest) c.is_empty.result c.is_empty.ensures (ap not c.loop-rest-test.true)
 
 -- there is a member left, so the lowest is one
 found : (c : After-next-next) → (c.next-next.result.v < 128) × (is_in c.loop-rest.rest c.next-next.result.v ≡ true)
-found c = let l = c.loop-rest in lowest_in (is_in l.rest) c.next-next.result.v c.is_empty.result c.next-next.ensures.v_value c.is_empty.ensures c.loop-rest-test.true-raw
+found c = let l = c.loop-rest in lowest_in (is_in l.rest) c.next-next.result.v c.is_empty.result c.next-next.ensures.v_value c.is_empty.ensures (ap not c.loop-rest-test.true)
 
 pub join-requires : goal.join-requires
 join-requires c = ((found (goal.at.join-requires c).After-next-next).0, search rules)
@@ -41,4 +41,4 @@ pub returns : goal.returns
 returns c =
     let l = c.loop-rest in
     let a = c.args in
-    spreading_all a.after.now (is_in a.set) a.v l.after (is_in l.rest) l.invariant (emptied a.set (is_in l.rest) (omega arith) (omega arith) l.invariant.inside c.is_empty.result c.is_empty.ensures c.loop-rest-test.false-raw)
+    spreading_all a.after.now (is_in a.set) a.v l.after (is_in l.rest) l.invariant (emptied a.set (is_in l.rest) (omega arith) (omega arith) l.invariant.inside c.is_empty.result c.is_empty.ensures (ap not c.loop-rest-test.false))

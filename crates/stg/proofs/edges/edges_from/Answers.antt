@@ -1,5 +1,5 @@
-use mathlib.Core.Path.{◌≡◌}
-use mathlib.Core.Bool.{true}
+use mathlib.Core.Path.{ap, ◌≡◌}
+use mathlib.Core.Bool.{not, true}
 use Prim.Native.Nat.{◌<◌}
 use native.Mathlib.Omega.{arith}
 use Rattle.vset.specs.Members.{is_in}
@@ -13,11 +13,11 @@ pub loop-rest-init : goal.loop-rest-init
 loop-rest-init c = listing_none c.args.u c.args.after c.args.many c.args.list.now c.requires.1 c.requires.2
 
 pub next-next-requires : goal.next-next-requires
-next-next-requires c = some_in (is_in c.loop-rest.rest) c.is_empty.result c.is_empty.ensures c.loop-rest-test.true-raw
+next-next-requires c = some_in (is_in c.loop-rest.rest) c.is_empty.result c.is_empty.ensures (ap not c.loop-rest-test.true)
 
 -- there is a member left, so the lowest is one
 found : (c : After-next-next) → (c.next-next.result.v < 128) × (is_in c.loop-rest.rest c.next-next.result.v ≡ true)
-found c = let l = c.loop-rest in lowest_in (is_in l.rest) c.next-next.result.v c.is_empty.result c.next-next.ensures.v_value c.is_empty.ensures c.loop-rest-test.true-raw
+found c = let l = c.loop-rest in lowest_in (is_in l.rest) c.next-next.result.v c.is_empty.result c.next-next.ensures.v_value c.is_empty.ensures (ap not c.loop-rest-test.true)
 
 pub overflow_add-u : goal.overflow_add-u
 overflow_add-u c = omega (arith, (found (goal.at.overflow_add-u c).After-next-next).0)
@@ -49,4 +49,4 @@ returns c =
     let l = c.loop-rest in
     let a = c.args in
     let I = l.invariant in
-    record { by_index = (λ p F L. listing_all a.u a.after a.many a.list.now (is_in l.rest) l.m l.list I (none_left (is_in l.rest) c.is_empty.result c.is_empty.ensures c.loop-rest-test.false-raw) p F L); upper_bound = (I.few, I.long) }
+    record { by_index = (λ p F L. listing_all a.u a.after a.many a.list.now (is_in l.rest) l.m l.list I (none_left (is_in l.rest) c.is_empty.result c.is_empty.ensures (ap not c.loop-rest-test.false)) p F L); upper_bound = (I.few, I.long) }

@@ -1,5 +1,5 @@
-use mathlib.Core.Path.{◌≡◌}
-use mathlib.Core.Bool.{true}
+use mathlib.Core.Path.{ap, ◌≡◌}
+use mathlib.Core.Bool.{not, true}
 use Prim.Native.Nat.{◌<◌}
 use native.Mathlib.Omega.{arith}
 use Rattle.vset.specs.Members.{is_in}
@@ -13,11 +13,11 @@ pub loop-rest-init : goal.loop-rest-init
 loop-rest-init c = going-none (is_in c.args.set) c.args.out.now c.args.at
 
 pub next-next-requires : goal.next-next-requires
-next-next-requires c = some_in (is_in c.loop-rest.rest) c.is_empty.result c.is_empty.ensures c.loop-rest-test.true-raw
+next-next-requires c = some_in (is_in c.loop-rest.rest) c.is_empty.result c.is_empty.ensures (ap not c.loop-rest-test.true)
 
 -- there is a member left, so the lowest is one
 found : (c : After-next-next) → (c.next-next.result.v < 128) × (is_in c.loop-rest.rest c.next-next.result.v ≡ true)
-found c = let l = c.loop-rest in lowest_in (is_in l.rest) c.next-next.result.v c.is_empty.result c.next-next.ensures.v_value c.is_empty.ensures c.loop-rest-test.true-raw
+found c = let l = c.loop-rest in lowest_in (is_in l.rest) c.next-next.result.v c.is_empty.result c.next-next.ensures.v_value c.is_empty.ensures (ap not c.loop-rest-test.true)
 
 pub put_field-more-requires : goal.put_field-more-requires
 put_field-more-requires c =
@@ -49,5 +49,5 @@ pub returns : goal.returns
 returns c =
     let l = c.loop-rest in
     let a = c.args in
-    let P = going-all (is_in a.set) a.out.now a.at (is_in l.rest) l.i l.out l.invariant (none_left (is_in l.rest) c.is_empty.result c.is_empty.ensures c.loop-rest-test.false-raw) in
+    let P = going-all (is_in a.set) a.out.now a.at (is_in l.rest) l.i l.out l.invariant (none_left (is_in l.rest) c.is_empty.result c.is_empty.ensures (ap not c.loop-rest-test.false)) in
     (P.is, P.laid)
