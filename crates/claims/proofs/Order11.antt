@@ -14,6 +14,7 @@ use Rattle.model.specs.Gain.{with_wcet}
 use Rattle.model.specs.Better.{Better, Looser, with_cores, without_edge, SameGraph, Improved, raised, lowered, Loosened, improved, removed, Several}
 use Rattle.model.proofs.Bools.{le-or-lt}
 use Rattle.model.proofs.Better as model
+use Rattle.model.proofs.Changes as changes
 use Rattle.model.proofs.Longest.{old_b_unique}
 use Rattle.model.proofs.Visit.{new_b_2_unique}
 use Rattle.graph.specs.Judge.{read_of}
@@ -56,19 +57,19 @@ module _ {s s' : List ℕ} {b b' : Bounded} (bytes : Bytes s) (bytes' : Bytes s'
 
   -- THEOREM. One type gets more cores.
   pub cores-new : (t m : ℕ) → (graph_in s).cores t ≤ m → SameGraph (with_cores (graph_in s) t m) (graph_in s') → b'.new.0 ≤ b.new.0
-  cores-new t m l e = board-new (model.loosened_looser (improved (raised t m l e)))
+  cores-new t m l e = board-new (changes.loosened_looser (improved (raised t m l e)))
 
   -- THEOREM. One WCET is lowered.
   pub wcet-new : (v c : ℕ) → c ≤ (graph_in s).wcet v → SameGraph (with_wcet (graph_in s) v c) (graph_in s') → b'.new.0 ≤ b.new.0
-  wcet-new v c l e = board-new (model.loosened_looser (improved (lowered v c l e)))
+  wcet-new v c l e = board-new (changes.loosened_looser (improved (lowered v c l e)))
 
   -- THEOREM. An edge is removed.
   pub edge-new : (u v : ℕ) → SameGraph (without_edge (graph_in s) u v) (graph_in s') → b'.new.0 ≤ b.new.0
-  edge-new u v e = board-new (model.loosened_looser (removed u v e))
+  edge-new u v e = board-new (changes.loosened_looser (removed u v e))
 
   -- THEOREM. Several such changes, one after the other.
   pub several_new : Several Loosened (graph_in s) (graph_in s') → b'.new.0 ≤ b.new.0
-  several_new m = board-new (model.several_looser m)
+  several_new m = board-new (changes.several_looser m)
 
   -- THEOREM. What `plan compare` promises: where it finds no point in which the second board is worse (row 0), or only that edges are missing
   -- (row 1), NEW-B-1 and its whole ticks do not rise.
@@ -91,15 +92,15 @@ module _ {s s' : List ℕ} {r r' : Seconded} (bytes : Bytes s) (bytes' : Bytes s
 
   -- THEOREM. One type gets more cores.
   pub cores-second : (t m : ℕ) → (graph_in s).cores t ≤ m → SameGraph (with_cores (graph_in s) t m) (graph_in s') → r'.parts.0 ≤ r.parts.0
-  cores-second t m l e = board-second (model.improved_better (raised t m l e))
+  cores-second t m l e = board-second (changes.improved_better (raised t m l e))
 
   -- THEOREM. One WCET is lowered.
   pub wcet-second : (v c : ℕ) → c ≤ (graph_in s).wcet v → SameGraph (with_wcet (graph_in s) v c) (graph_in s') → r'.parts.0 ≤ r.parts.0
-  wcet-second v c l e = board-second (model.improved_better (lowered v c l e))
+  wcet-second v c l e = board-second (changes.improved_better (lowered v c l e))
 
   -- THEOREM. Several such changes, one after the other.
   pub several_second : Several Improved (graph_in s) (graph_in s') → r'.parts.0 ≤ r.parts.0
-  several_second m = board-second (model.several_better m)
+  several_second m = board-second (changes.several_better m)
 
 taken-file : {s : List ℕ} {t : Taken} → ReadGives s t → t.answer ≡ Accepted → IsAccepted s
 taken-file T ok = sym (ap (λ (t : Taken). t.answer) (read-given T)) ∙ ok
@@ -131,7 +132,7 @@ module _ {s s' : List ℕ} {t t' : Taken} (bytes : Bytes s) (bytes' : Bytes s') 
 -- So the numbers of cores that meet a limit are all from some number on.
 pub cores-between : {s : List ℕ} {t : Taken} → Bytes s → ReadGives s t → t.answer ≡ Accepted → (k a c : ℕ) → 0 < a → a ≤ c → c ≤ 16 → (x y : ℕ)
     → NewB1 (with_cores (graph_in s) k a) x → NewB1 (with_cores (graph_in s) k c) y → y ≤ x
-cores-between {s} bytes T ok = let A = reader.taken s bytes (taken-file T ok) in model.cores-between A.well_formed A.acyclic
+cores-between {s} bytes T ok = let A = reader.taken s bytes (taken-file T ok) in changes.cores-between A.well_formed A.acyclic
 
 -- ---- what has no such property
 

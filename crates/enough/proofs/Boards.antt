@@ -13,7 +13,7 @@ use Rattle.model.specs.Cycle.{Acyclic}
 use Rattle.model.specs.Bounds.{PARTS, NewB1}
 use Rattle.model.specs.Better.{with_cores, SameGraph}
 use Rattle.model.proofs.Longest.{new_b_1_unique}
-use Rattle.model.proofs.Better.{cores_well}
+use Rattle.model.proofs.Changes.{cores_well}
 use Rattle.bounds.proofs.Unused.{new_b_1_same}
 use Rattle.enough.specs.Answers.{Meets}
 use Rattle.enough.proofs.Meeting.{meets-within, new-there}

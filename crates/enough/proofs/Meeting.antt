@@ -10,7 +10,7 @@ use Rattle.model.specs.Bounds.{PARTS, NewB1}
 use Rattle.model.specs.Better.{with_cores}
 use Rattle.model.proofs.Bools.{le-or-lt}
 use Rattle.model.proofs.Longest.{new_b_1_exists, new_b_1_unique}
-use Rattle.model.proofs.Better.{cores_well, cores-acyclic, cores-between}
+use Rattle.model.proofs.Changes.{cores_well, cores-acyclic, cores-between}
 use Rattle.enough.specs.Answers.{Meets, Smallest}
 
 -- THEOREM. Whether a number meets the limit is told by its NEW-B-1.

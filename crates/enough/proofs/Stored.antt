@@ -10,7 +10,7 @@ use Rattle.model.specs.Places.{pick}
 use Rattle.model.specs.Better.{with_cores}
 use Rattle.model.proofs.Bools.{le-or-lt}
 use Rattle.model.proofs.Turns.{put-at}
-use Rattle.model.proofs.Better.{cores_well, cores-acyclic}
+use Rattle.model.proofs.Changes.{cores_well, cores-acyclic}
 use Rattle.graph.specs.Model.{AcceptedGraph, as_model, from, to, joins}
 use Rattle.reader.specs.Laid.{graph_in, Usable}
 use Rattle.reader.specs.declared.Header.{Header}

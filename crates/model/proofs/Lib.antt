@@ -38,6 +38,7 @@ pub mod Gains
 pub mod Rankings
 -- Better hardware, less work, fewer edges:
 pub mod Better
+pub mod Changes
 pub mod Removed
 -- The theorem of demand 3:
 pub mod Demand3

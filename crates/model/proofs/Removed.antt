@@ -18,7 +18,7 @@ use Rattle.model.specs.Better.{without_edge}
 use Rattle.model.proofs.Bools.{left-of, right_of}
 use Rattle.model.proofs.Cycles.{acyclic-test}
 use Rattle.model.proofs.Visit.{second_of, second_computed, new_b_2_unique}
-use Rattle.model.proofs.Better.{without_well, without-acyclic}
+use Rattle.model.proofs.Changes.{without_well, without-acyclic}
 
 abbrev pub three : Graph
 three = record { n = 3; kinds = 2; kind = λ v. pick (eqb v 0) 1 0; cores = λ s. 1; wcet = λ v. 1; edge = λ u v. ltb u 2 && eqb v 2 }

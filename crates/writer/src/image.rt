@@ -3,7 +3,7 @@ ghost use Rattle.std.specs.Prelude.{◌≡◌, ◌+◌, ◌≤◌, length, repli
 ghost use Rattle.writer.specs.Lists.{lists};
 ghost use Rattle.writer.specs.Image.{record_at_of, imaged};
 
-use super::records::record_at;
+use super::written::record_at;
 
 // The first `a` types, `b` vertices and `e` edges, record by record, into a table that is zero. There is room for one record more of each
 // kind than is allowed.

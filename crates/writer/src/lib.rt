@@ -8,7 +8,7 @@ ghost use Rattle.writer.specs.Lists.{lists};
 ghost use Rattle.writer.specs.Write.{wrote_by, wrote_of, room_by, room_after};
 
 mod image;
-mod records;
+mod written;
 
 use graph::{Answer, Refusal};
 

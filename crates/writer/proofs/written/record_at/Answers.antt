@@ -3,7 +3,7 @@ use lib.ListN.{length}
 use borrow.Author.Tests.{lt-ltb, le-ltb}
 use Rattle.writer.specs.Write.{type_of, vertex_of, edge_of}
 use Rattle.writer.specs.Image.{record_at_of}
-use Rattle.writer.proofs.records.record_at.Goals as goal
+use Rattle.writer.proofs.written.record_at.Goals as goal
 
 pub returns-then-k-a : goal.returns-then-k-a
 unfolding record_at_of type_of
