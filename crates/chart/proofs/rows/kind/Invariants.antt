@@ -1,0 +1,8 @@
+use Prim.Native.Nat.{◌-◌, ◌≤◌}
+use Rattle.chart.proofs.rows.kind.Given as goal
+
+abbrev pub invariant-loop-j : goal.invariant-loop-j
+invariant-loop-j l = l.j ≤ l.j-end
+
+abbrev pub decreases-loop-j : goal.decreases-loop-j
+decreases-loop-j l = l.j-end - l.j
