@@ -72,7 +72,7 @@ fn shown(rt: &impl Env, t: &[u8], names: Names, g: Graph, file: &[u8], log: &[u8
 {
     let form = formed::judge(log, g.n);
     match form {
-        Answer::Refused(r) => answers_runs::recorded::refused(rt, log, t, names, g.n, r),
+        Answer::Refused(r) => answers_runs::frame::refused(rt, log, t, names, g.n, r),
         Answer::Accepted => drawn(t, names, g, log, what, judged(file, log)),
     }
 }
@@ -82,7 +82,7 @@ pub fn full(rt: &impl Env, t: &[u8], names: Names, g: Graph, file: &[u8]) -> u8
     requires { AcceptedGraph g }
 {
     let mut room = [0u8; 2048];
-    let made = answers_runs::recorded::at_wcets(rt, t, g, file, &mut room);
+    let made = answers_runs::frame::at_wcets(rt, t, g, file, &mut room);
     if made.status != input::ANSWER {
         return made.status;
     }
@@ -101,7 +101,7 @@ fn timed(rt: &impl Env, t: &[u8], names: Names, g: Graph, file: &[u8], said: &[u
     requires { AcceptedGraph g }
 {
     let mut room = [0u8; 2048];
-    let made = answers_runs::recorded::with_text(rt, t, names, g, file, said, &mut room);
+    let made = answers_runs::frame::with_text(rt, t, names, g, file, said, &mut room);
     if made.status != input::ANSWER {
         return made.status;
     }

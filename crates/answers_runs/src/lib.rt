@@ -3,6 +3,6 @@
 #![tactic(auto)]
 
 pub mod by_tick;
-pub mod recorded;
+pub mod frame;
 pub mod run;
 mod times;

@@ -1,10 +1,10 @@
 // The stretch that is shown though it has no core.
-use crate::{rows, stretch};
+use crate::{core_rows, stretch};
 use graph::{Graph, Refusal};
 
 // Whether the stage of record k, of type `kind`, has none there: the list names one past the last then.
 fn is_bare(g: Graph, on: &[u8], k: usize, kind: usize) -> bool {
-    stretch::core(on, k) >= rows::cores(g, kind)
+    stretch::core(on, k) >= core_rows::cores(g, kind)
 }
 
 // The first record of a type at which a stage has none.

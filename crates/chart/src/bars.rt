@@ -2,7 +2,7 @@
 ghost use Rattle.std.specs.Prelude.{◌<◌};
 
 use crate::stretch::Stretch;
-use crate::{Look, rows, stretch};
+use crate::{Look, core_rows, stretch};
 use board::Names;
 use chart_page::{axis, called, element};
 use graph::Graph;
@@ -27,7 +27,7 @@ fn is_wrong(look: Look, s: Stretch) -> bool {
 
 // A stretch has a row where it has a core. Of those that have none one is shown, in the row that its type has more.
 fn has_row(g: Graph, look: Look, s: Stretch) -> bool {
-    (s.core < rows::cores(g, s.kind)) | (s.start == look.bare)
+    (s.core < core_rows::cores(g, s.kind)) | (s.start == look.bare)
 }
 
 fn is_on_path(look: Look, v: usize) -> bool {
@@ -46,7 +46,7 @@ fn wcet(g: Graph, v: usize) -> u64 {
 fn shape(before: &[u8], s: Stretch, y: u64) -> bool
     requires { y < 60000 }
 {
-    element::bar(before, s.from, y, s.to, y + rows::BAR)
+    element::bar(before, s.from, y, s.to, y + core_rows::BAR)
 }
 
 fn coloured(look: Look, s: Stretch, y: u64) -> bool
@@ -92,8 +92,8 @@ fn bar(t: &[u8], of: Names, g: Graph, look: Look, s: Stretch, y: u64) -> bool
     requires { y < 57000 }
 {
     let v = s.stage;
-    let cores = rows::cores(g, s.kind);
-    let drawn = coloured(look, s, y + rows::MARGIN) & data(s);
+    let cores = core_rows::cores(g, s.kind);
+    let drawn = coloured(look, s, y + core_rows::MARGIN) & data(s);
     drawn & title(t, of, s, cores, total(look, v), wcet(g, v))
 }
 
@@ -118,7 +118,7 @@ fn name(t: &[u8], of: Names, look: Look, s: Stretch, y: u64) -> bool
     let begun = element::text(
         b"<text class=\"name\"",
         left + 3,
-        axis::TOP + y + rows::NAME,
+        axis::TOP + y + core_rows::NAME,
     );
     begun & called::stage_cut(t, of, s.stage, room) & element::text_end()
 }
@@ -129,7 +129,7 @@ fn one(t: &[u8], of: Names, g: Graph, look: Look, s: Stretch, what: bool) -> boo
     if !has_row(g, look, s) {
         return true;
     }
-    let y = rows::top(g, look.more, s.kind, s.core);
+    let y = core_rows::top(g, look.more, s.kind, s.core);
     if what {
         return bar(t, of, g, look, s, y);
     }

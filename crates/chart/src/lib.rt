@@ -4,10 +4,10 @@
 
 mod bare;
 mod bars;
+mod core_rows;
 mod heading;
 mod legend;
 mod lines;
-mod rows;
 mod stretch;
 
 ghost use Rattle.std.specs.Prelude.{◌<◌};
@@ -86,7 +86,7 @@ fn above(t: &[u8], of: Names, g: Graph, log: &[u8], look: Look, told: Told, heig
 {
     let first = page::begin(height + 168) & heading::lines(t, of, log, told);
     let more = look.more;
-    let under = rows::all(t, of, g, more) & axis::grid(look.span, height + 104);
+    let under = core_rows::all(t, of, g, more) & axis::grid(look.span, height + 104);
     first & under & axis::begin(look.span, height)
 }
 
@@ -129,7 +129,7 @@ fn laid_out(
     requires { (0 < look.span) × (look.span < 8589934600) }
 {
     let more = look.more;
-    let height = rows::height(g, more);
+    let height = core_rows::height(g, more);
     let mark = lines::mark(log, told);
     let first = above(t, of, g, log, look, told, height);
     let middle = inside(t, of, g, log, on, look, told, finish, mark, height);
@@ -154,7 +154,7 @@ pub fn picture(t: &[u8], of: Names, g: Graph, log: &[u8], path: &[u8], told: Tol
         refusal,
         span: axis::span(need(finish, told)),
         bare,
-        more: rows::more(g, log, bare),
+        more: core_rows::more(g, log, bare),
         path,
         totals,
     };

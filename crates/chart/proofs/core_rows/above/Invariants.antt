@@ -1,5 +1,5 @@
 use Prim.Native.Nat.{◌-◌, ◌*◌, ◌≤◌}
-use Rattle.chart.proofs.rows.above.Given as goal
+use Rattle.chart.proofs.core_rows.above.Given as goal
 
 abbrev pub invariant-loop-i : goal.invariant-loop-i
 invariant-loop-i l = (l.i ≤ 10) × (l.rows ≤ 256 * l.i)

@@ -1,5 +1,5 @@
 use Prim.Native.Nat.{◌-◌, ◌≤◌}
-use Rattle.chart.proofs.rows.kind.Given as goal
+use Rattle.chart.proofs.core_rows.kind.Given as goal
 
 abbrev pub invariant-loop-j : goal.invariant-loop-j
 invariant-loop-j l = l.j ≤ l.j-end
