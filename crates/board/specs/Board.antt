@@ -4,13 +4,13 @@
 -- `faults/specs/Faults`, and of rows 5 and 6, a second type or stage of a name, 7 and 8, one type or stage too many.
 --
 --   nameless             the names of a graph file, which has none
---   withKind n i e       the names n with one type more, whose name stands from place i up to place e; withStage, the same with a stage
---   board f n            the names n with the fault f; isFine f, that f says nothing is wrong
---   kindLine t n i       the names with those of the line `cores NAME NUMBER` at place i, and what is wrong with it
---   stageLine t n i      the same of the line `NAME TYPE WCET ..` at place i
+--   with_kind_of n i e       the names n with one type more, whose name stands from place i up to place e; with_stage_of, the same with a stage
+--   board f n            the names n with the fault f; is_fine f, that f says nothing is wrong
+--   kind_line_of t n i       the names with those of the line `cores NAME NUMBER` at place i, and what is wrong with it
+--   stage_line_of t n i      the same of the line `NAME TYPE WCET ..` at place i
 --   line_of t n i         the same of whichever line begins at place i: one without a word says nothing
---   linesUpTo t i        the names of the lines that begin below place i, up to the first that has a fault
---   boardOf t            the names of a text, and the first thing wrong with it
+--   lines_up_to t i        the names of the lines that begin below place i, up to the first that has a fault
+--   board_of t            the names of a text, and the first thing wrong with it
 use Rattle.std.specs.Prelude.{Bool, ◌&&◌, List, [], ◌∷◌, ℕ, zero, suc, ◌+◌, length, set, replicate, eqb, leb}
 use Rattle.model.specs.Places.{pick}
 use Rattle.texts.specs.Text.{byte_at, ends, until, word_at, word_after, same}

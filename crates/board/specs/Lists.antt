@@ -2,9 +2,9 @@
 --
 -- What the lines of a board text say of its types and stages: `t` is its bytes, `n` the names.
 --
---   coresAt t n k    how many cores type k has
+--   cores_at_of t n k    how many cores type k has
 --   kind_at t n v     which type's name stands after that of stage v; so many as there are types where none does
---   wcetAt t n v     the number that stands after it
+--   wcet_at_of t n v     the number that stands after it
 --
 -- Each is 0 where there is no such type or stage, and so far as a record of the file can hold it.
 use Rattle.std.specs.Prelude.{List, ℕ, ◌%◌, get_or, ltb}

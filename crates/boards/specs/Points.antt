@@ -2,9 +2,9 @@
 --
 --   lower a b i       the place i of b is below that of a
 --   differ a b i      the places i differ
---   isNew a n b i     the place i of b is none of the first n of a
---   edgePoint g h     row 0 where h has the edges of g, 7 at its first edge that g has not, else 1: some are missing
---   stagePoint g h    row 5 at the first stage of another type, then 6 at the first whose WCET is larger, then the edges
+--   is_new_of a n b i     the place i of b is none of the first n of a
+--   edge_point g h     row 0 where h has the edges of g, 7 at its first edge that g has not, else 1: some are missing
+--   stage_point g h    row 5 at the first stage of another type, then 6 at the first whose WCET is larger, then the edges
 --   point_of g h       row 2 for another number of types, 3 of stages, 4 at the first type that has fewer cores, then the stages
 use Rattle.std.specs.Prelude.{Bool, not, List, ℕ, eqb, ltb, get_or}
 use Rattle.model.specs.Places.{pick, any, first}

@@ -4,10 +4,10 @@
 --   Nothing r           every figure is 0: what stands beside a refusal
 --   Beside a G r        what stands beside the answer a: the figures of G, or nothing
 --   BoundsOf s r        the answer of `bounds`: the reader's, and its graph's figures
---   noRoom              lent room too small: 15 at 0
+--   no_room_left              lent room too small: 15 at 0
 --   PathIn g old r new  the answer r for an accepted graph, and the lent list from old to new: 15 where there are fewer than N
 --                       places, else the path; whatever is not the path stays as it was
---   ofPathed r          the answer in document 01's numbers: its value is how many vertices the path has
+--   of_pathed r          the answer in document 01's numbers: its value is how many vertices the path has
 --   PathOf s old r new  the answer of `path`, and the lent list: the reader's refusal, or that
 use Rattle.std.specs.Prelude.{◌≡◌, List, ◌++◌, ℕ, ◌/◌, ◌≤◌, ◌<◌, length, drop}
 use Rattle.model.specs.Graph.{Graph}

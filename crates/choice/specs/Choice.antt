@@ -2,17 +2,17 @@
 --
 -- Which of the vertices that can run do so: the model's `chosen`, said of any test for "ready", and kind by kind.
 --
---   ofKind l n k v              v is one of the first n, and of kind k by the list l
---   setAt words k               the set in the words 2 k and 2 k + 1
+--   of_kind_of l n k v              v is one of the first n, and of kind k by the list l
+--   set_at_of words k               the set in the words 2 k and 2 k + 1
 --   OfKinds words l n           the words hold the vertices of each kind
 --   Joined old k v new          v has joined the set k
---   goOn able ran mask v        in the mask, ready, and ran in the tick before
+--   go_on able ran mask v        in the mask, ready, and ran in the tick before
 --   wait able ran mask v        in the mask, ready, and did not
 --   starts stay free mask m v    v is free and in the mask, and gets one of the m cores that those in `stay` leave
 --   filled able ran mask m v    v runs, where m cores are there for the mask
 --   choice g able ran v         v runs
---   chosenBy kinds cores words able ran v    the same, by the words of the kinds
---   fairBy kinds cores words ran             no more vertices of a kind are marked than it has cores, by the words of the kinds
+--   chosen_by kinds cores words able ran v    the same, by the words of the kinds
+--   fair_by kinds cores words ran             no more vertices of a kind are marked than it has cores, by the words of the kinds
 use Rattle.std.specs.Prelude.{◌≡◌, Bool, not, ◌&&◌, ◌||◌, List, ℕ, ◌+◌, ◌-◌, ◌*◌, ◌<◌, eqb, ltb, leb, get_or, length}
 use Rattle.model.specs.Places.{any, count, every}
 use Rattle.graph.specs.declared.Graph.{Graph}

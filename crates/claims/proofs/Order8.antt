@@ -9,9 +9,9 @@
 --   Sized r              the table of remainders has 128 places, as that of every record that is handed over has
 --   RunBefore            the run record before this order
 --   before r             what a record holds of it
---   recordBefore n t s   the record of the state s of n vertices at the instant t, as it was
+--   record_before n t s   the record of the state s of n vertices at the instant t, as it was
 --   TickedBefore         what a tick reported and handed back
---   tickedBefore g b     the tick of a record that suits, as it was
+--   ticked_before g b     the tick of a record that suits, as it was
 use mathlib.Core.Path.{◌≡◌, refl, sym, ap, ◌∙◌, subst}
 use mathlib.Core.Logic.{◌⊎◌, inl, inr, ⊎_elim, ◌↔◌}
 use mathlib.Core.List.{List}

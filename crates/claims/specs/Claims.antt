@@ -2,8 +2,8 @@
 --
 --   Bytes s                    every place of the list s is a byte
 --   IsAccepted s               the reader accepts the file s
---   graphIn s                  the model's graph of the file s, which is accepted
---   drawnIn s                  the model's graph that the records of a file give, accepted or not
+--   graph_in s                  the model's graph of the file s, which is accepted
+--   drawn_in s                  the model's graph that the records of a file give, accepted or not
 --   schedule s e               the list schedule of the file's graph with the times e
 --   run_at s e t                the record of that schedule's state at the instant t
 --   NoneFrom a b s             no row of document 01's table, from number a up to b - 1, holds for any place of the file

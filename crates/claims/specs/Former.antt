@@ -1,7 +1,7 @@
 -- How a file was judged before order 3, with row 12 of document 01's table. Only order 3's theorems cite this file.
 --
 --   rule12 s               row 12
---   heldBefore s num k     the row of number num, of the table's first twelve, held for the place k
+--   held_before s num k     the row of number num, of the table's first twelve, held for the place k
 --   AcceptedBefore a s     none of them from a on applied: the reader accepted the file (from 1 on), the writer the lists that give it (from 4 on)
 --   RefusedBefore a s r    r is the lowest of them from a on that applied, with the first place that it held for
 use Rattle.std.specs.Prelude.{◌≡◌, Bool, true, false, not, ◌||◌, List, ℕ, ◌≤◌, ◌<◌, eqb}

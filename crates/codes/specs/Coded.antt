@@ -1,6 +1,6 @@
 -- The answers as C sees them: document 01's number and place, 0 and 0 where nothing is refused, and the values beside them.
 --
---   codedGraph, codedWrote, ..        each entry's answer, by its number, place and value (`Said`)
+--   coded_graph_of, coded_wrote_of, ..        each entry's answer, by its number, place and value (`Said`)
 --   BoundsCoded s r                   r is the coded answer of `bounds` for the file s
 --   SecondCoded s r                   so too for `second`
 --   EnoughCoded s k d r               so too for `enough`, with the type k and the limit d

@@ -1,10 +1,10 @@
 -- The answers of a run as C sees them.
 --
---   codedStart, codedPlay     the answers of `start` and `run`
---   codedReport x             what a tick reports
---   codedTick                 the answer of `tick`
---   codedReplay               the answer of `replay`
---   codedLate                 the answer of `late`: yes is 1, no 0
+--   coded_start_of, coded_play_of     the answers of `start` and `run`
+--   coded_report_of x             what a tick reports
+--   coded_tick_of                 the answer of `tick`
+--   coded_replay_of               the answer of `replay`
+--   coded_late_of                 the answer of `late`: yes is 1, no 0
 --   LateCoded s e d r         r is the coded answer of `late` for the file s, the times e and the tick d
 use Rattle.std.specs.Prelude.{◌≡◌, List, ℕ}
 use Rattle.model.specs.Places.{bit}

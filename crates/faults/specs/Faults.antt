@@ -6,13 +6,13 @@
 --
 --   fault r i               the fault that row r says of place i; fine, that nothing is wrong
 --   begins t i              whether a line begins at place i
---   longLine t i            whether a line that begins at place i has more than 4,096 bytes
---   lineFault t             the first line that is too long
---   textFault t             what is wrong with a text as such: its length, its bytes, its lines' lengths
---   numberFault t i m       what is wrong with the word at place i as a number of at most m
---   nameFault t i l n e     what is wrong with the word at place i as a new name beside the first n of the list l: too long, there already (row e)
---   aloneFault t i m        what is wrong after the word at place i: a number of at most m follows, and nothing else
---   stageFault t i          what is wrong after the name of a stage at place i: a type and a WCET follow
+--   long_line t i            whether a line that begins at place i has more than 4,096 bytes
+--   line_fault t             the first line that is too long
+--   text_fault t             what is wrong with a text as such: its length, its bytes, its lines' lengths
+--   number_fault t i m       what is wrong with the word at place i as a number of at most m
+--   name_fault t i l n e     what is wrong with the word at place i as a new name beside the first n of the list l: too long, there already (row e)
+--   alone_fault t i m        what is wrong after the word at place i: a number of at most m follows, and nothing else
+--   stage_fault t i          what is wrong after the name of a stage at place i: a type and a WCET follow
 use Rattle.std.specs.Prelude.{Bool, not, ◌&&◌, ◌||◌, List, ℕ, ◌-◌, length, eqb, ltb}
 use Rattle.model.specs.Places.{pick, first}
 use Rattle.texts.specs.Text.{byte_at, ends, until, word_at, word_after, which_name, LARGE, number_of}

@@ -2,12 +2,12 @@
 --
 -- What a pass over the records of a log has at record k. `l` is the log, n how many vertices there are.
 --
---   leastKey l k            the lowest key that record k may have: one above the key before it
---   faultBy n l k on least  record k is at fault, where `on` tells whether its vertex runs before it, and least is that key
+--   least_key l k            the lowest key that record k may have: one above the key before it
+--   fault_by n l k on least  record k is at fault, where `on` tells whether its vertex runs before it, and least is that key
 --   MetBy l k p             p holds what a pass has met before record k: who runs, and the lowest key of record k
 --   FoundBy n l r           r holds the first record at fault, and who runs before it
 --   form_of n l              the answer of 18 alone
---   clockAt l k             the instant of the record before record k
+--   clock_at l k             the instant of the record before record k
 --   Clocked n l k cells     for each vertex that does not run after k records the ticks it ran; for one that runs, its start less those
 --   TotalsOf n l r          r holds the totals
 --   last_of l v k            one more than the last of the first k records that is of v, or 0

@@ -5,12 +5,12 @@
 --
 --   LentOf g n cores kind edge starts          the lists that are lent are those of the graph, which is accepted
 --   Lists n l kind words edge starts lasts     what a step goes by
---   usedBy kind n l k s         how many vertices of kind s run
+--   used_by kind n l k s         how many vertices of kind s run
 --   Used kind n l k used        the list has these numbers
---   fullBy kind cores n l k v   v is of a kind with no idle core
+--   full_by kind cores n l k v   v is of a kind with no idle core
 --   Framed n l kind cores edge starts k used waiting f    the frame f, and the tables that go with it, say how it stands
 --   idles f v                   v could run, does not, and a core of its kind is idle, by the frame f
---   crowdedBy kind cores n l k  number 20 holds for record k
+--   crowded_by kind cores n l k  number 20 holds for record k
 --   MovedBy .. k used waiting r    how it stands after record k, and whether 20 holds for it
 --   FaultsBy G l k r            r holds the first places of 19, 20 and 22, as far as k records tell them
 --   PassedBy .. k used waiting p   a pass: how it stands, the instant of the record before, and what is found of the graph

@@ -2,9 +2,9 @@
 --
 -- The gains as a table.
 --
---   leftBy p e s w               what is left of the longest path without a vertex's weight w: the larger one of what passes it, p, and of the best
+--   left_by p e s w               what is left of the longest path without a vertex's weight w: the larger one of what passes it, p, and of the best
 --                                path through it, by its sums e and s
---   gainBy len p e s w c         what the longest path len loses then, and the vertex's part of the volume, with the WCET c
+--   gain_by len p e s w c         what the longest path len loses then, and the vertex's part of the volume, with the WCET c
 --   Fitting len p e s w c        no difference is cut off, and the sums fit
 --   Gainable g e st o n w c r    the lists are those of `Weighed`, w are the scaled weights and c the WCETs, and r is the summary
 --   GainsIn G l                  the table l has the gain of each vertex; unused places are zero

@@ -3,7 +3,7 @@
 -- What passes the places of the order, as the code keeps it along the order o. A `Top` is the largest of some sums with the vertex that it is of.
 --
 --   at o l q              what the list l has for the vertex at place q
---   higherOf t x v        t, or x with v where that is larger
+--   higher_of t x v        t, or x with v where that is larger
 --   TopFrom o l n p t     t is the largest that l has for the vertices at the places from p on, below n, or 0
 --   onward s b x          the sum b, and on from x: what s has for it
 --   Led e st b u k t r    r is t, or b x with x where that is larger, for the vertices x that the first k edges of u go to

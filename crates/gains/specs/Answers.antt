@@ -6,7 +6,7 @@
 --   AlteredIn g v x old r new    of an accepted graph with the WCET of v set to x: 7 at 0 where it has no vertex v, whatever x is; 7 at the vertex's
 --                                record where x is above the limit; else the gains of the altered graph
 --   AlteredOf s v x old r new    the answer of `gains_altered`: the reader's refusal, or that
---   ofGained r                   the answer in document 01's numbers: its value is how many vertices there are
+--   of_gained r                   the answer in document 01's numbers: its value is how many vertices there are
 use Rattle.std.specs.Prelude.{◌≡◌, List, ◌++◌, ℕ, ◌+◌, ◌≤◌, ◌<◌, length, get_or, drop}
 use Rattle.model.specs.Graph.{Graph}
 use Rattle.model.specs.Gain.{with_wcet, GainOf}

@@ -2,7 +2,7 @@
 --
 --   accepted          the graph of an accepted file is an accepted graph
 --   taken             the same, of what the reader hands back
---   refused-rightly   a refusal of the reader is the lowest number that applies, with the first place that it holds for
+--   refused_rightly   a refusal of the reader is the lowest number that applies, with the first place that it holds for
 use mathlib.Core.Path.{◌≡◌, ap, ◌∙◌}
 use mathlib.Core.Bool.{false, not, ◌||◌}
 use mathlib.Core.List.{List}

@@ -8,7 +8,7 @@
 --   many s r             how many records there are of the order r
 --   ordinal s k          record k's place among its kind
 --   graph_of s            counts and lists of the file, unused places zero
---   noGraph              zero throughout: what stands beside a refusal
+--   no_graph_of              zero throughout: what stands beside a refusal
 use Rattle.std.specs.Prelude.{Bool, List, ℕ, ◌+◌, ◌*◌, ◌/◌, length, get_or, replicate, eqb}
 use Rattle.model.specs.Places.{pick, count, padded}
 use Rattle.graph.specs.declared.Graph.{Graph}

@@ -4,9 +4,9 @@
 --   place_of s num        the first place that number num holds for, or as many as there are
 --   applies s num        number num holds for some place
 --   lowest a s           the lowest number from a to 11 that applies, or 12
---   judgeFrom a s        the answer of the numbers from a on: the reader's from 1, the writer's from 4
+--   judge_from a s        the answer of the numbers from a on: the reader's from 1, the writer's from 4
 --   Rightly a s r        r is the lowest number from a on that applies, with the first place that it holds for
---   takenFrom a s        that answer, and the graph beside it
+--   taken_from a s        that answer, and the graph beside it
 --   read_of s             what `read` gives for the file s
 use Rattle.std.specs.Prelude.{◌≡◌, Bool, true, false, List, ℕ, ◌+◌, ◌-◌, ◌≤◌, ◌<◌, ltb}
 use Rattle.model.specs.Places.{pick, first}

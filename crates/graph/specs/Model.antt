@@ -1,7 +1,7 @@
 -- The reader's value as a graph of the model, and what an accepted graph is.
 --
 --   from g i, to g i     the ends of edge i
---   asModel g            the graph of the model that the counts and lists give
+--   as_model g            the graph of the model that the counts and lists give
 --   AcceptedGraph g      what every layer above the reader may rely on
 use Rattle.std.specs.Prelude.{◌≡◌, Bool, ◌&&◌, ℕ, suc, ◌/◌, ◌%◌, ◌≤◌, ◌<◌, eqb, get_or}
 use Rattle.model.specs.Places.{any}

@@ -1,8 +1,8 @@
 -- An answer in document 01's numbers: for each answer that is an enum, what number, place and value each of its cases is. C sees answers so.
 --
 --   Said            the number, 0 where nothing is refused, and its place; and the value that stands beside it, 0 beside a refusal
---   saidNo r        the refusal r
---   ofAnswer a      an answer that has no value beside it
+--   said_no r        the refusal r
+--   of_answer a      an answer that has no value beside it
 use Rattle.std.specs.Prelude.{ℕ}
 use Rattle.graph.specs.declared.Refusal.{Refusal}
 use Rattle.graph.specs.declared.Answer.{Answer}

@@ -4,18 +4,18 @@
 -- A vertex that starts takes the lowest free core of its kind. One that stops and starts again at the same instant runs on, and keeps its
 -- core: all stops of an instant stand before its starts, so the core is not free for another that starts there.
 --
---   startsLater l k i             record i is a start of record k's vertex, later in the log and at the same instant
---   runsOn l k                    the vertex of record k starts at the record's instant, in a later record
---   hasCore l k v                 after k records v has a core: it runs, or it has stopped and runs on
+--   starts_later l k i             record i is a start of record k's vertex, later in the log and at the same instant
+--   runs_on_of l k                    the vertex of record k starts at the record's instant, in a later record
+--   has_core l k v                 after k records v has a core: it runs, or it has stopped and runs on
 --   taken has core kind n s j     core j of the kind s is that of a vertex that has one
 --   core_of n l kind cores k v     the core that v got last, within the first k records
 --   lanes_of n l kind cores        the list: for each record the core of its vertex, at a start from there on, at a stop up to there
---   lastThat p m                  the last place below m at which p holds, or 0
---   coreIn l out t v              the core of v in the tick t by the list `out`: that of its last start at or before t
+--   last_that p m                  the last place below m at which p holds, or 0
+--   core_in l out t v              the core of v in the tick t by the list `out`: that of its last start at or before t
 --   Fits n l kind cores           in no tick do more vertices of a kind run than it has cores
 --   Named l kind cores out        `out` names cores as it should: cores that there are, one vertex to a core, and one core for as long as a vertex
 --                                 runs on                              (proofs/Naming: where the log fits, lanes_of does)
---   placingOf G l out             the log's schedule with these names, as a placing of the model
+--   placing_of G l out             the log's schedule with these names, as a placing of the model
 --                                                                      (proofs/Given: a list that names cores as it should leaves none idle)
 use Rattle.std.specs.Prelude.{◌≡◌, Bool, true, false, not, ◌&&◌, ◌||◌, List, ℕ, zero, suc, ◌≤◌, ◌<◌, length, get_or, eqb, ltb}
 use Rattle.model.specs.Places.{pick, any, first, count, largest, table}

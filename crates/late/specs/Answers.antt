@@ -5,7 +5,7 @@
 --   Told G e d r        r says whether the list schedule of G with the times e ends by tick d, and how many ticks were played
 --   Nothing r           no, and 0: what stands beside a refusal
 --   Beside a G e d r    what stands beside the answer a: what is told, or nothing
---   judgedOf s e        "Refusals: those of a run, without 15": the reader's, then 13 and 14
+--   judged_of s e        "Refusals: those of a run, without 15": the reader's, then 13 and 14
 --   LateOf s e d r      the answer of `late`
 use Rattle.std.specs.Prelude.{◌≡◌, false, List, ℕ, ◌/◌, min, leb}
 use Rattle.model.specs.Places.{pick}

@@ -1,9 +1,9 @@
 -- When a vertex is finished in the list schedule, and when all are (document 01, "Schedules"). It computes. proofs/Finishes: these are
 -- the finish instants and the finish of the model's list schedule.
 --
---   doneAt G e t v    v is finished t ticks after the start with the times e
---   finishAt G e v    the first instant at which v is finished; a run takes no more ticks than there are in all
---   finishOf G e      the finish: the first instant at which all vertices are finished
+--   done_at G e t v    v is finished t ticks after the start with the times e
+--   finish_at G e v    the first instant at which v is finished; a run takes no more ticks than there are in all
+--   finish_of G e      the finish: the first instant at which all vertices are finished
 use Rattle.std.specs.Prelude.{Bool, ℕ}
 use Rattle.model.specs.Places.{first, every, sum}
 use Rattle.model.specs.Graph.{Graph}

@@ -4,7 +4,7 @@
 --
 --   Work                  the run: its record, the fewest ticks left of those that ran, who has ticks left, who stands behind them, and the
 --                         finish instants
---   workOf g m left wait fins    the same, from what the code keeps of it
+--   work_of g m left wait fins    the same, from what the code keeps of it
 --   Timed g left wait     what is left of each vertex at the start fits the graph, and the numbers of unfinished predecessors are right
 --   stamped l p t v       t for a place of p, else what stands in l
 --   Stamped l p t new     the list `new` has that at each place
@@ -14,8 +14,8 @@
 --                         room for more ticks
 --   Fresh g r             a record at instant 0 whose times fit the graph and whose numbers are right
 --   Kept g e w            what holds of a run with the times e between two leaps
---   recordAt g e t        the record of the list schedule at the instant t
---   untilOf g e d         the record of a run up to tick d: that of the instant d, or of the finish where that comes before
+--   record_at_of g e t        the record of the list schedule at the instant t
+--   until_of g e d         the record of a run up to tick d: that of the instant d, or of the finish where that comes before
 --   Stopped g e d m left wait fins    a run up to tick d has stopped: its record, and where all are finished their finish instants
 --   end_of g e             the end of a whole run: the finish, and the finish instants, with zeros from N on
 use Rattle.std.specs.Prelude.{◌≡◌, Bool, true, false, not, ◌&&◌, ◌||◌, ◌⊎◌, List, ℕ, ◌+◌, ◌≤◌, ◌<◌, min, get_or, length}

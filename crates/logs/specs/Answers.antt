@@ -4,11 +4,11 @@
 -- bytes is the writer's, specs/Write: with `wrote_by` 15 where there is less room, with `room_by` the bytes and then what stood past them,
 -- or beside a refusal what stood there.
 --
---   logFor g e             the log of the graph g with the times e
---   loggedIn g e room      the answer where the times fit and so many bytes are lent
---   loggedOn g e room      the same, with 13 and 14 before
---   loggedOf s e room      what `log` returns for the file s: the reader's refusals come first
---   logRoom s e out        what the lent room, which held out, holds at the end
+--   log_for g e             the log of the graph g with the times e
+--   logged_in g e room      the answer where the times fit and so many bytes are lent
+--   logged_on g e room      the same, with 13 and 14 before
+--   logged_of s e room      what `log` returns for the file s: the reader's refusals come first
+--   log_room s e out        what the lent room, which held out, holds at the end
 use Rattle.std.specs.Prelude.{List, ℕ, length}
 use Rattle.graph.specs.Judge.{read_of}
 use Rattle.graph.specs.Model.{as_model}

@@ -2,7 +2,7 @@
 --
 -- The keys of a run's records, as the code finds them from the times e and the finish instants F. A key is as in recorded's LogOf.
 --
---   startKey e F v, stopKey F v    the keys of the start and of the stop of v
+--   start_key e F v, stop_key F v    the keys of the start and of the stop of v
 --   KeyOf e F v x                  x is one of them, and v has a time
 --   Gathered e F n m l             the first m of the list are the keys of the vertices below n, each of them once
 --   BOUND                          no key of an instant of 32 bits is as high

@@ -1,6 +1,6 @@
 -- The entries of one record, noted one after the other.
 --
---   room-left, loop-room, double-room, move-room   at most two entries: there is room for each that is made
+--   room-left, loop-room, double-room, move_room   at most two entries: there is room for each that is made
 --   noted                               the four notes are the record's entries
 --   two-done, next-entry, entries-short   how many there are
 use mathlib.Core.Path.{◌≡◌, refl}

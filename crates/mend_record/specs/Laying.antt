@@ -5,8 +5,8 @@
 --   over old at r        old with the bytes r laid over it from at on
 --   put old at r on      the same where on holds, else old
 --   Held l old b         b holds the list l, and past it what old held
---   entryBytes c k       a record of the list, with the letter c
---   fateOf s k           what is done to record k
+--   entry_bytes c k       a record of the list, with the letter c
+--   fate_of s k           what is done to record k
 --   notes old n k f      old with what is done to record k noted from n on
 use Rattle.std.specs.Prelude.{◌≡◌, Bool, List, [], ◌∷◌, ◌++◌, ℕ, ◌+◌, ◌*◌, ◌/◌, ◌%◌, ◌≤◌, length, take, drop}
 use Rattle.model.specs.Places.{pick, bit}

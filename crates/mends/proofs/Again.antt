@@ -4,8 +4,8 @@
 --   origin             every record of the mended file has one
 --   mended-at          and every record that stays is one: it stands, cleared, at its place. No other byte changes
 --   mended-mendable    the mended file is not refused
---   mended-tidy        no stray byte, no edge from a vertex to itself, the edges ascend
---   again-none         so it needs no mend
+--   mended_tidy        no stray byte, no edge from a vertex to itself, the edges ascend
+--   again_none         so it needs no mend
 use mathlib.Core.Path.{◌≡◌, refl, sym, ap, ap₂, ◌∙◌}
 use mathlib.Core.Logic.{◌⊎◌, inl, inr}
 use mathlib.Core.Bool.{true, false, not}

@@ -1,13 +1,13 @@
 -- The order's sentences over the answer of `mend` and the two buffers.
 --
 --   judged-mendable, mendable-judged   no number up to 3 is given exactly where none of the three applies
---   refused-1, -2, -3, -15             each number, with its place, where no lower one applies
+--   refused_1, -2, -3, -15             each number, with its place, where no lower one applies
 --   mended                             else the lengths of the mended file and of the list
---   leaves-file, leaves-list           beside a refusal both buffers hold what they held
+--   leaves_file, leaves_list           beside a refusal both buffers hold what they held
 --   holds-file, holds-list             on success each holds its answer, and past it what it held
 --   unchanged                          a file that needs no mend comes back unchanged, with an empty list
 --   again                              mending the result again does nothing
---   accepted-unchanged                 a file that the reader accepts comes back unchanged, with an empty list
+--   accepted_unchanged                 a file that the reader accepts comes back unchanged, with an empty list
 use mathlib.Core.Path.{◌≡◌, refl, ◌∙◌}
 use mathlib.Core.Logic.{◌⊎◌, inl, inr}
 use mathlib.Core.Bool.{Bool, true, false, ◌||◌}

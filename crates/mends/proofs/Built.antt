@@ -2,7 +2,7 @@
 --
 --   built-length   how long it is
 --   built-byte     byte j of record i is that of its source
---   built-ext      what a built file rests on
+--   built_ext      what a built file rests on
 --   same-file      two files of n records with the same bytes are equal
 use mathlib.Core.Path.{◌≡◌, refl, sym, ap, ap₂, ◌∙◌}
 use mathlib.Core.Logic.{◌⊎◌, inl, inr}

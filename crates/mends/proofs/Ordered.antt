@@ -4,7 +4,7 @@
 -- due before it in that row, and places ascend with the row.
 --
 --   entry_found       each record of the list is that of a mend that is done
---   entries-ascend    and they stand in order
+--   entries_ascend    and they stand in order
 use mathlib.Core.Path.{◌≡◌, refl, sym, ap, ◌∙◌}
 use mathlib.Core.Logic.{◌⊎◌, inl, inr}
 use mathlib.Core.Bool.{Bool, true}

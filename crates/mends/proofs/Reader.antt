@@ -1,10 +1,10 @@
 -- Mending and the reader's rules.
 --
 --   stray-is            a stray byte, as one looks for it
---   two-faults          number 2 is given for an unknown kind or a stray byte, and for nothing else
+--   two_faults          number 2 is given for an unknown kind or a stray byte, and for nothing else
 --   accepted-mendable   an accepted file is not refused
 --   accepted-none       and needs no mend
---   mended-2, -9, -10   of a mended file: 2 holds nowhere, 9 only where an end is undeclared, 10 nowhere
+--   mended_2, -9, -10   of a mended file: 2 holds nowhere, 9 only where an end is undeclared, 10 nowhere
 use mathlib.Core.Path.{◌≡◌, refl, sym, ◌∙◌}
 use mathlib.Core.Bool.{Bool, true, false, not, ◌&&◌, ◌||◌}
 use mathlib.Core.List.{List}

@@ -1,7 +1,7 @@
 -- A tidy file has no stray byte, no edge from a vertex to itself, and its edges ascend. It needs no mend, and a file that needs none is
 -- its own mended file, with an empty list.
 --
---   tidy-none        a tidy file needs no mend
+--   tidy_none        a tidy file needs no mend
 --   list-empty       where no mend is due the list is empty
 --   file-kept        and the file is unchanged
 use mathlib.Core.Path.{◌≡◌, refl, sym, ap, ◌∙◌}

@@ -5,7 +5,7 @@
 --   kept-place       a kept edge stands after the types and vertices, by its ends among the kept edges
 --   ascends          the edges of the mended file ascend
 --   untouched        a record that is not listed has all its bytes, and an edge its place among the kept edges
---   no-edge-lost     every edge that is from no vertex to itself is in the mended file
+--   no-edge_lost     every edge that is from no vertex to itself is in the mended file
 use mathlib.Core.Path.{◌≡◌, refl, sym, ◌∙◌}
 use mathlib.Core.Logic.{inl, inr, ⊎_elim}
 use mathlib.Core.Bool.{true, false, not}

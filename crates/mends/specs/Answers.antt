@@ -2,12 +2,12 @@
 -- the mended buffer is shorter than the input or the list has under 16 bytes for each input record").
 --
 --   unknown s k                 record k is of no known kind
---   judgeMend s                 the answer of 1, 2 and 3
+--   judge_mend s                 the answer of 1, 2 and 3
 --   Mendable s                  none of the three applies
 --   tight s room listRoom       15: one of the buffers is too short
---   mendOf s room listRoom      the answer where so many bytes are lent: how long the mended file and the list are
---   fileAfter s room list       what the buffer for the file holds at the end, where it held room and the list's buffer held list
---   listAfter s room list       what the buffer for the list holds at the end
+--   mend_of s room listRoom      the answer where so many bytes are lent: how long the mended file and the list are
+--   file_after s room list       what the buffer for the file holds at the end, where it held room and the list's buffer held list
+--   list_after_of s room list       what the buffer for the list holds at the end
 --   Same s room list file       the answer is the length of the file and an empty list; the one buffer holds the file, the other what it held
 use Rattle.std.specs.Prelude.{◌≡◌, Bool, false, ◌||◌, List, ◌++◌, ℕ, ◌*◌, ◌<◌, length, drop, eqb, ltb}
 use Rattle.model.specs.Places.{pick, first}

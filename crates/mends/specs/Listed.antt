@@ -4,9 +4,9 @@
 --   letter m         the mend's byte: C, D, X, M
 --   turn m           the letter's place among the four
 --   entry m k        the list's record for the mend m of record k
---   entryIf s m k    that record where the mend is done, else nothing
+--   entry_if s m k    that record where the mend is done, else nothing
 --   entries s k      all that is done to record k
---   listUpTo s n     all that is done to the first n records
+--   list_up_to s n     all that is done to the first n records
 --   list_of s         the whole list
 --   Says s e m k     record e of the list is that for the mend m of record k
 --   Before k m i n   the mend m of record k is listed before the mend n of record i: by record number, then C, D, X, M

@@ -4,7 +4,7 @@
 --
 --   says list m k e      record e of the list is the mend m of record k
 --   listed list m k      the list has such a record
---   goesNot list k       neither D nor X is listed for record k
+--   goes_not list k       neither D nor X is listed for record k
 --   remains s list k     an edge of s for which neither is
 --   stood s list k       its place among these edges as they stood
 --   belongs s list k     its place among them by their ends

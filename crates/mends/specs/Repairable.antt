@@ -2,8 +2,8 @@
 -- types and vertices are as they should be, and of the kept edges there are not too many, they join declared vertices and hold no cycle.
 -- Stray bytes, edges from a vertex to itself, doubles and edges out of order are left open.
 --
---   joinsKept s u v k     record k is a kept edge from u to v
---   keptGraph s           the graph of the kept edges; of the vertices nothing else is said
+--   joins_kept s u v k     record k is a kept edge from u to v
+--   kept_graph s           the graph of the kept edges; of the vertices nothing else is said
 --   Repairable s          the only faults of s are the four
 use Rattle.std.specs.Prelude.{◌≡◌, Bool, true, false, ◌&&◌, List, ℕ, ◌≤◌, ◌<◌, eqb}
 use Rattle.model.specs.Places.{any, count}

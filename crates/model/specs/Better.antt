@@ -3,8 +3,8 @@
 --   NoWorse G H           the same vertices and kinds; H has at least as many cores of each kind, and no WCET above that of G
 --   Better G H            the same, and the same edges: H is G on a better board, or with less work
 --   Looser G H            the same, and no edge that G has not: edges may be missing besides
---   withCores G s m       G with m cores of kind s
---   withoutEdge G u v     G without the edge from u to v
+--   with_cores G s m       G with m cores of kind s
+--   without_edge G u v     G without the edge from u to v
 --   SameGraph G H         nothing is told apart in G and H: vertices, kinds, cores, WCETs, edges
 --   Improved G H          one change, other things equal: one kind has more cores, or one WCET is lowered
 --   Loosened G H          one change: that, or one edge is removed

@@ -4,7 +4,7 @@
 --   vol G s         the sum of the WCETs over the vertices of kind s
 --   volume G        for each kind its vol × PARTS / cores, added up
 --   used G s        at least one vertex has kind s, as a test; one with WCET 0 counts
---   mostCores G     the largest core number among the kinds that at least one vertex has (Mmax; document 02, order 2)
+--   most_cores_of G     the largest core number among the kinds that at least one vertex has (Mmax; document 02, order 2)
 --   scaled G v      the scaled weight of v
 --   OldB G B        B is OLD-B of G
 --   NewB1 G B       B is NEW-B-1 of G

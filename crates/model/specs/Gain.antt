@@ -1,6 +1,6 @@
 -- What a rewrite would gain (order 1).
 --
---   withWcet G v x      G with the WCET of v set to x
+--   with_wcet G v x      G with the WCET of v set to x
 --   GainOf G v x        x is the gain of v: NEW-B-1 of G less NEW-B-1 of the same graph with the WCET of v set to 0, in parts
 use Rattle.std.specs.Prelude.{◌≡◌, ℕ, ◌+◌, eqb}
 use Rattle.model.specs.Places.{pick}

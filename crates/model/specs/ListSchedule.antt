@@ -4,13 +4,13 @@
 --   finished G c v     Finished as a test: it looks back along the edges, N of them at most     (proofs/Tests: it tells Finished)
 --   ready G c v        Ready as a test                                                          (proofs/Tests: it tells Ready)
 --   State              what is left of each vertex, and which ran in the tick before and are unfinished
---   goesOn G s k v     of kind k, ready, and ran in the tick before
+--   goes_on_next G s k v     of kind k, ready, and ran in the tick before
 --   waits G s k v      of kind k, ready, and did not
 --   chosen G s v       v runs in the tick that begins at the state s
 --   step G s           the state one tick later
 --   begin e            the state at instant 0 with the times e
 --   steps G t s        the state t ticks later
---   listSchedule G e   the list schedule of G with the times e
+--   list_schedule G e   the list schedule of G with the times e
 --   Fair G s           no more vertices of a kind are marked than it has cores
 --   leap G d s         the state after d ticks in which the same vertices run   (proofs/Leap: d steps, while none of them finishes before)
 use Rattle.std.specs.Prelude.{Bool, false, not, ◌&&◌, ◌||◌, ℕ, zero, suc, ◌-◌, ◌≤◌, ◌<◌, eqb, ltb}

@@ -5,13 +5,13 @@
 -- proofs/Visit.
 --
 --   amid m a n i          the i-th of all, where m 0 lists a 0 0, a 0 1, .. come first, then m 1 lists a 1 0, .. , up to the n-th family
---   pathWithin G k v i    the i-th path from v to a sink of at most k vertices: over its least successor first, then over the next
---   pathAt G i            the i-th complete path
+--   path_within G k v i    the i-th path from v to a sink of at most k vertices: over its least successor first, then over the next
+--   path_at G i            the i-th complete path
 --   nothing               the empty set
 --   fresh G U v w         w is parallel to v and not in the set U
 --   widened G U v         the set U with those parallel to v
 --   gained G U v          what v adds to the value of a path, U being beside it already: one share serves all that are fresh, since they are of v's kind
---   valueFrom G U x p     the value of the path that goes on with p, where it has the value x and U is beside it
+--   value_from G U x p     the value of the path that goes on with p, where it has the value x and U is beside it
 use Rattle.std.specs.Prelude.{Bool, false, not, ◌&&◌, ◌||◌, List, [], ◌∷◌, ℕ, zero, suc, ◌+◌, ◌-◌, ◌*◌, ◌/◌, ltb}
 use Rattle.model.specs.Places.{pick, sum}
 use Rattle.model.specs.Graph.{Graph, source, sink}

@@ -1,4 +1,4 @@
--- A plain reading of a generated contract, for a function that the borrow checker does not cover and that therefore has no `Reads`: `post` is what its `ensures` says, and `says` that the generated clauses say just that, in every model.
+-- A plain reading of a generated contract: `post` is what its `ensures` says, and `says` that the generated clauses say just that, in every model.
 use Rattle.std.specs.Prelude.{◌≡◌}
 use seplogic.Ra.Ura.{Ura}
 use base.Logic.{SProp}

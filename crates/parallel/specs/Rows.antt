@@ -4,7 +4,7 @@
 --
 --   below G v w              w is a descendant of the vertex v
 --   beside G v w             w is a vertex that is parallel to the vertex v
---   reachedBy e st t u k w   one of the first k edges of u goes to w, or to a vertex whose row in the table t has w
+--   reached_by e st t u k w   one of the first k edges of u goes to w, or to a vertex whose row in the table t has w
 use Rattle.std.specs.Prelude.{Bool, ◌&&◌, ◌||◌, List, ℕ, eqb, ltb}
 use Rattle.model.specs.Places.{any}
 use Rattle.model.specs.Graph.{Graph}

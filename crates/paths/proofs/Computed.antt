@@ -1,8 +1,8 @@
 -- The largest sum and the least path that attains it as functions that compute, for small graphs: what lies ahead of a vertex is
 -- the largest over its successors, looking at most N edges on.
 --
---   ahead_of G f v      the largest sum ahead of v          greatestOf G f    the largest sum along a complete path
---   leastOf G f        the least of the paths that attain it
+--   ahead_of G f v      the largest sum ahead of v          greatest_of G f    the largest sum along a complete path
+--   least_of G f        the least of the paths that attain it
 use mathlib.Core.Path.{◌≡◌, refl, sym}
 use mathlib.Core.Bool.{Bool, true, false, ◌&&◌}
 use mathlib.Core.List.{List, [], ◌∷◌}

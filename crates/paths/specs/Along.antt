@@ -5,7 +5,7 @@
 -- for a vertex that no edge goes to.
 --
 --   goes e i                where edge i goes
---   sumBy e w s i           what lies ahead by edge i: the weight of the vertex that it goes to, and the sum of that
+--   sum_by e w s i           what lies ahead by edge i: the weight of the vertex that it goes to, and the sum of that
 --   Given e w s a b x       x is the sum by one of the edges from a to b, or 0
 --   Follows e w s a b x     x is the largest sum by the edges from a to b, or 0 where there are none
 --   Visitable e st w s u    the edges of u stand in the list and go to vertices, and the sums by them fit

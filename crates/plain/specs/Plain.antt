@@ -2,13 +2,13 @@
 --
 -- Records as they should be, each seen by itself, and how many of them stand one after another.
 --
---   typeRow s k           record k is the type k, of 1 to 16 cores
---   vertexRow s a v       record a + v is the vertex v, of one of a types, with a WCET up to 1,000,000
---   edgeRow s n k         record k is an edge between two of n vertices
---   leastKey s a i        what the i-th edge from record a on has to reach, to be above the one before it
+--   type_row_of s k           record k is the type k, of 1 to 16 cores
+--   vertex_row_of s a v       record a + v is the vertex v, of one of a types, with a WCET up to 1,000,000
+--   edge_row_of s n k         record k is an edge between two of n vertices
+--   least_key s a i        what the i-th edge from record a on has to reach, to be above the one before it
 --   types_in s             how many types stand first
---   verticesIn s a        how many vertices stand after a types
---   edgesIn s a n         how many edges stand from record a on, each above the one before it
+--   vertices_in s a        how many vertices stand after a types
+--   edges_in s a n         how many edges stand from record a on, each above the one before it
 --   plain_of s             all three
 --   is_whole s c           c are all the records of s, with a type and a vertex among them
 use Rattle.std.specs.Prelude.{Bool, not, ◌&&◌, List, ℕ, zero, suc, ◌+◌, ◌-◌, min, eqb, ltb, leb}

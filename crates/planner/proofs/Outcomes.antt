@@ -115,7 +115,7 @@ planner_tick-one κs a r r' ws ws' pre p q = (p ∙ sym q, refl)
 pub planner_run-one : OneOutcome run.ended run-reads.Pre run-reads.Post
 planner_run-one κs a r r' ws ws' pre p q = (p.0 ∙ sym q.0, λ i. (tt, (tt, ((p.1 ∙ sym q.1) i, tt))))
 
--- a function that is proved by hand has no `Reads`: its clause is said again, and `refl` holds it to the generated one
+-- its clause is said again, and `refl` holds it to the generated one
 abbrev pub planner_tick_in_place_stated : Stated tick-in-place.ended (λ M 𝓤. tick-in-place.clauses {M = M} {𝓤 = 𝓤})
 planner_tick_in_place_stated = record {
   post = λ κs a r e. (e.0.now ≡ (tick_of a.1.0.now a.0.now).run) × (r ≡ coded_report_of (tick_of a.1.0.now a.0.now).report);

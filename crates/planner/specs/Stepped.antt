@@ -2,7 +2,7 @@
 --
 -- What `step` gives.
 --
---   codedStep t      the answer of `tick`, coded, beside the record
+--   coded_step t      the answer of `tick`, coded, beside the record
 use Rattle.tick.specs.declared.Ticked.{Ticked}
 use Rattle.codes.specs.CodedRun.{coded_report_of}
 use Rattle.planner.specs.declared.Stepped.{Stepped}

@@ -139,7 +139,7 @@ pub struct Stepped {
     pub run: Run,
 }
 
-// All of that entry but the loan, so that its proof by hand is of a load, a call and a store.
+// All of that entry but the loan.
 fn step(run: Run, file: &[u8]) -> Stepped
     ensures { result ≡ coded_step (tick_of file.now run) }
 {

@@ -4,7 +4,7 @@
 -- each vertex's edges begin, o an order of the vertices along the edges. The header h has the counts.
 --
 --   Blank c k w e o               the tables before anything stands in them
---   graphIn h c k w e             the graph that the counts and lists are
+--   graph_in h c k w e             the graph that the counts and lists are
 --   Along g st o                  st are the starts of the edges of g, and o is an order along them
 --   LaidOut g h c k w e st o      the counts and lists are the graph g, and go along it
 --   TakenInto s h c k w e st o    the reader's answer, and where the file is accepted its graph

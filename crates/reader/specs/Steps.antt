@@ -4,7 +4,7 @@
 --
 --   Quiet s              no number from 2 to 10 holds for any place
 --   Faultless s c        the same, and c holds how many records there are of each kind
---   lowestIn s           the lowest number from 2 to 10 that applies, with its place; or 11
+--   lowest_in_of s           the lowest number from 2 to 10 that applies, with its place; or 11
 --   Found s r            r has that, and where it is 11 the counts
 --   Listed s e st        e are the edges of the file's graph, and st their starts
 --   Tested s r e st o p  r is whether the edges hold a cycle; they are listed, with their starts, where they hold none the order, and the rows of

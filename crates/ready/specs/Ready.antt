@@ -2,9 +2,9 @@
 --
 -- Which vertices stand behind one that has ticks left.
 --
---   someLeft l v            v has ticks left, by the list l
---   behindWithin G p r v    v has an ancestor for which p holds, at most r edges back
---   isBehind G p v          v has an ancestor for which p holds; N edges are enough where there is no cycle
+--   some_left l v            v has ticks left, by the list l
+--   behind_within G p r v    v has an ancestor for which p holds, at most r edges back
+--   is_behind G p v          v has an ancestor for which p holds; N edges are enough where there is no cycle
 use Rattle.std.specs.Prelude.{Bool, false, ◌&&◌, ◌||◌, List, ℕ, zero, suc, ltb, get_or}
 use Rattle.model.specs.Places.{any}
 use Rattle.model.specs.Graph as model

@@ -1,8 +1,8 @@
 -- For a pass over the records: what one record changes, and what a tick has of the records before it.
 --
 --   running-step    who runs after one record more
---   runs-prefix     a tick has those running that run after the records up to its instant
---   ran-clock       between two instants with no record strictly between them, a vertex ran all the ticks or none
+--   runs_prefix     a tick has those running that run after the records up to its instant
+--   ran_clock       between two instants with no record strictly between them, a vertex ran all the ticks or none
 use mathlib.Core.Path.{◌≡◌}
 use mathlib.Core.Logic.{⊎_elim}
 use mathlib.Core.Bool.{Bool, true, false, not, ◌&&◌, ◌||◌}

@@ -2,8 +2,8 @@
 --
 --   place_of G l room row    the first place that a row holds for, or as many as there are
 --   applies G l room row    the row holds for some place
---   firstRow G l room       the first row that applies, or 8
---   judgeLog G l room       no with the number of that row and its first place, else accepted
+--   first_row G l room       the first row that applies, or 8
+--   judge_log G l room       no with the number of that row and its first place, else accepted
 --   Rightly G l room r      r has the number of the first row that applies, and the first place that it holds for
 --   First p m k             k is the first of m places at which p holds
 --   Conforms G l            l is in form, and the schedule that it records is work conserving, with times at most the WCETs

@@ -4,12 +4,12 @@
 -- the tick before and does not run on. A record is named by its key, as in Log: 512 × instant + 256 for a start + vertex; the log has the
 -- records in ascending order of their keys.
 --
---   ranBefore S t v       v ran in the tick that ends at the instant t
+--   ran_before S t v       v ran in the tick that ends at the instant t
 --   change n S x          the record with the key x is a start or a stop of a vertex below n in the schedule S
---   logRecord x           the 8 bytes of the record with the key x
+--   log_record x           the 8 bytes of the record with the key x
 --   bytes_of xs            the records with these keys, one after the other
---   logUpTo n S h         the log of S, with the records up to the instant h
---   logOf G e             the log of G's list schedule with the times e: a run ends when all its ticks are done, at the latest
+--   log_up_to n S h         the log of S, with the records up to the instant h
+--   log_of G e             the log of G's list schedule with the times e: a run ends when all its ticks are done, at the latest
 use Rattle.std.specs.Prelude.{Bool, false, not, ◌&&◌, List, [], ◌∷◌, ◌++◌, ℕ, zero, suc, ◌*◌, ◌/◌, ◌%◌, eqb, ltb}
 use Rattle.model.specs.Places.{pick, sum, that}
 use Rattle.model.specs.Graph.{Graph}

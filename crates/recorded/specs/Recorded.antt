@@ -1,13 +1,13 @@
 -- The schedule that a log records (document 02, order 7: "A vertex's execution time is its total; one absent took 0").
 --
---   lastInstant l       the largest instant of the log; 0 where it is empty
---   startedBy l v t i   record i is a start of v, at or before the instant t
---   stoppedBy l v t j   record j is a stop of v, at or before the instant t
---   runsIn l t v        v runs in the tick t: a start of v at or before t has no stop of v after it up to t
---   ranTicks l v t      in how many ticks before the instant t v runs
+--   last_instant l       the largest instant of the log; 0 where it is empty
+--   started_by l v t i   record i is a start of v, at or before the instant t
+--   stopped_by l v t j   record j is a stop of v, at or before the instant t
+--   runs_in l t v        v runs in the tick t: a start of v at or before t has no stop of v after it up to t
+--   ran_ticks l v t      in how many ticks before the instant t v runs
 --   total l v           in how many ticks v runs           (proofs/Recording: none of them is from the last instant on)
---   scheduleOf l        the schedule: these times, and who runs in which tick
---   finishIn G l        the first instant at which all vertices of G are finished; one up to the log's last, or that
+--   schedule_of l        the schedule: these times, and who runs in which tick
+--   finish_in_of G l        the first instant at which all vertices of G are finished; one up to the log's last, or that
 --                       (proofs/Finishing: it is the schedule's finish, and it is the last instant)
 use Rattle.std.specs.Prelude.{Bool, not, ◌&&◌, List, ℕ, ltb, leb}
 use Rattle.model.specs.Places.{any, first, every, count, largest}

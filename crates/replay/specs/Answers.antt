@@ -1,11 +1,11 @@
 -- The replay of a log l for a file s (document 02, order 7: "hand back finish and times"). The log is judged as `recorded` says, specs/Judge,
 -- after the file; the finish and the times are those of the schedule that it records, specs/Recorded.
 --
---   replayOn g l room       what is answered for the graph g: the finish, where the log is accepted
---   replayOf s l room       what is answered for the file s: 1 to 11 as the reader gives them, before any other number
---   ofReplayed p            the answer in document 01's numbers: its value is the finish
---   timesBeside p g l old   the lent list, which held old, beside the answer p: the times of the vertices, and past N what it held
---   timesAfter s l old      what the lent list holds at the end
+--   replay_on_of g l room       what is answered for the graph g: the finish, where the log is accepted
+--   replay_of s l room       what is answered for the file s: 1 to 11 as the reader gives them, before any other number
+--   of_replayed p            the answer in document 01's numbers: its value is the finish
+--   times_beside p g l old   the lent list, which held old, beside the answer p: the times of the vertices, and past N what it held
+--   times_after_of s l old      what the lent list holds at the end
 use Rattle.std.specs.Prelude.{List, ◌++◌, ℕ, length, drop}
 use Rattle.model.specs.Places.{table}
 use Rattle.graph.specs.Judge.{read_of}

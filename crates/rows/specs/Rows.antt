@@ -5,8 +5,8 @@
 --   predecessor l m v u    one of the first m edges of the list l goes from u to v: u is a predecessor of v
 --   above G v u            u is an ancestor of the vertex v
 --   Kin g p a              the table p has the predecessors of each vertex of g, and the table a its ancestors
---   onesOf t v             how many ones row v of the table t has
---   ledBy t v              1 where it has one, else 0
+--   ones_among t v             how many ones row v of the table t has
+--   led_by t v              1 where it has one, else 0
 use Rattle.std.specs.Prelude.{Bool, ◌&&◌, List, ℕ, eqb, ltb}
 use Rattle.model.specs.Places.{bit, any, count}
 use Rattle.model.specs.Graph.{Graph}

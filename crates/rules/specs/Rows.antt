@@ -2,8 +2,8 @@
 --
 -- The rows 2 to 10 of the table as one record, or the counts, show them.
 --
---   ofRecord s num k     the row of a number that is tested for each record
---   ofCounts c num       the row of a number that is tested on the counts
+--   of_record s num k     the row of a number that is tested for each record
+--   of_counts c num       the row of a number that is tested on the counts
 use Rattle.std.specs.Prelude.{Bool, ◌||◌, List, ℕ, eqb, ltb}
 use Rattle.model.specs.Places.{pick}
 use Rattle.graph.specs.Rules.{rule2, rule3, rule5, rule7, rule9, rule10}

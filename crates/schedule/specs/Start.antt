@@ -1,7 +1,7 @@
 -- Starting a run (document 01, "Schedules"). The times are judged as `times` says, specs/Times.
 --
 --   no_run                 zero and unmarked throughout: what stands beside a refusal
---   startedOn g e         the answer and record for the graph g
+--   started_on g e         the answer and record for the graph g
 --   start_of s e           what `start` gives for the file s
 use Rattle.std.specs.Prelude.{List, ℕ, replicate}
 use Rattle.model.specs.ListSchedule.{begin}

@@ -1,7 +1,7 @@
 -- One tick for a caller (document 01: "a refused tick hands back the record it was given").
 --
---   tickOn g r      16 where the record does not suit the graph g; else the tick
---   tickOf s r      what `tick` gives for the file s
+--   tick_on_of g r      16 where the record does not suit the graph g; else the tick
+--   tick_of s r      what `tick` gives for the file s
 use Rattle.std.specs.Prelude.{List, ℕ}
 use Rattle.model.specs.Places.{pick}
 use Rattle.graph.specs.Judge.{read_of}

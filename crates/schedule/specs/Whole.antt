@@ -1,12 +1,12 @@
 -- A whole run (document 01: "A whole run fills a list with each vertex's finish instant and returns the finish"). The finish and the
 -- instants are those of `leaps`, specs/Finishes.
 --
---   playIn g e m           what is returned where the times fit and the lent list has m places: 15 where they are fewer than N
---   playOn g e m           the same, with 13 and 14 before
---   playOf s e m           what `run` returns for the file s
---   ofPlayed p             the answer in document 01's numbers: its value is the finish
---   filledBeside p g e l   the lent list, which held l, beside the answer p: places past N keep what they held
---   finishesOf s e l       what the lent list holds at the end
+--   play_in g e m           what is returned where the times fit and the lent list has m places: 15 where they are fewer than N
+--   play_on_of g e m           the same, with 13 and 14 before
+--   play_of s e m           what `run` returns for the file s
+--   of_played p             the answer in document 01's numbers: its value is the finish
+--   filled_beside p g e l   the lent list, which held l, beside the answer p: places past N keep what they held
+--   finishes_of s e l       what the lent list holds at the end
 use Rattle.std.specs.Prelude.{List, ◌++◌, ℕ, ltb, length, drop}
 use Rattle.model.specs.Places.{pick, table}
 use Rattle.graph.specs.Judge.{read_of}

@@ -266,8 +266,7 @@ pub fn tick_in_place(run: &mut Run, file: &[u8]) -> Report
     ticked.report
 }
 
-// A caller with a record of its own: it lends the record, and hands it back by value. For every other caller, so that none of them
-// needs a proof by hand.
+// A caller with a record of its own: it lends the record, and hands it back by value. For every other caller.
 pub fn ticked_in_place(run: Run, file: &[u8]) -> Ticked
     ensures { result ≡ tick_of file.now run }
 {

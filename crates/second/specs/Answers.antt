@@ -1,6 +1,6 @@
 -- What the entry of order 4 gives for a file s.
 --
---   tooMany           more than 4,096 complete paths: 17 at 0
+--   too_many_paths           more than 4,096 complete paths: 17 at 0
 --   SecondIn G r      of the graph G: 17 exactly where it has more than 4,096 complete paths, else NEW-B-2; beside a refusal 0
 --   SecondOf s r      the answer of `second`: the reader's refusal, or that
 use Rattle.std.specs.Prelude.{◌≡◌, List, ℕ, ◌≤◌, ◌<◌}

@@ -1,6 +1,6 @@
 -- For our own layers alone: no contract for callers and no claim cites this file.
 --
---   shareBy m s     the share of a tick that a core of kind s is, by the list m of cores
+--   share_by m s     the share of a tick that a core of kind s is, by the list m of cores
 use Rattle.std.specs.Prelude.{List, ℕ, ◌/◌, get_or}
 use Rattle.model.specs.Bounds.{PARTS}
 

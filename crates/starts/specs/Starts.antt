@@ -2,10 +2,10 @@
 --
 -- An edge list: the ends of its edges, where those of each vertex begin in it, and an order of the vertices along it.
 --
---   comesFrom l i, leadsTo l i    the ends of edge i of the list l
---   notBelow l u i    edge i of the list l comes from u or a higher number
+--   comes_from l i, leads_to l i    the ends of edge i of the list l
+--   not_below l u i    edge i of the list l comes from u or a higher number
 --   start_in l m u     the first of the first m edges of the list l that comes from u or a higher number, or m where none does
---   firstEdge g u     the same of a graph's edges
+--   first_edge g u     the same of a graph's edges
 --   Rows l m n st     the first m edges of l join n vertices and ascend; st says where the edges of each vertex begin
 --   Ordered l m n o   o lists each of the n vertices once, and each of the first m edges of l goes from an earlier place to a later one
 use Rattle.std.specs.Prelude.{◌≡◌, Bool, List, ℕ, suc, ◌/◌, ◌%◌, ◌≤◌, ◌<◌, leb, get_or, length}

@@ -3,7 +3,7 @@
 -- A line as the code lays it, field by field.
 --
 --   tailed xs            each number with a blank before it (proofs/Laying: a line is its first number, and the others so)
---   taskText v time p    the line of task v with this time and the predecessors for which p holds
+--   task_text v time p    the line of task v with this time and the predecessors for which p holds
 use Rattle.std.specs.Prelude.{Bool, List, [], ◌∷◌, ◌++◌, ℕ, length}
 use Rattle.model.specs.Places.{that}
 use Rattle.stg_text.specs.Canonical.{decimal, line_of}

@@ -2,9 +2,9 @@
 --
 -- What is left of a text, as a line and what follows it.
 --
---   untilFeed r          the bytes before the first line feed, or all
---   hasFeed r            there is a line feed
---   pastFeed r           the bytes past the first line feed
+--   until_feed r          the bytes before the first line feed, or all
+--   has_feed r            there is a line feed
+--   past_feed r           the bytes past the first line feed
 --   rest_at s i           what is left of the text s from line i on
 --   lawful n xs          of a task's numbers, the predecessors: none above n + 1 and none twice
 use Rattle.std.specs.Prelude.{Bool, false, ◌&&◌, ◌||◌, List, [], ◌∷◌, ℕ, zero, suc, drop}

@@ -6,10 +6,10 @@
 -- that a loop's invariant is one equation: what is to come from here gives what was to come from the start.
 --
 --   parts c              a blank, a tab or a line feed
---   skipAt i r           the place of the first byte that is no blank and no tab
---   feedAt i r           the place of the first line feed, or the end
+--   skip_at i r           the place of the first byte that is no blank and no tab
+--   feed_at_of i r           the place of the first line feed, or the end
 --   scan i k x r         the number that goes on here, with k digits so far that say x; or a fault
---   tokenAt s at         what comes first in the text from the place on: the line's end, a number, or a fault
+--   token_at s at         what comes first in the text from the place on: the line's end, a number, or a fault
 use Rattle.std.specs.Prelude.{Bool, ◌&&◌, ◌||◌, List, [], ◌∷◌, ℕ, ◌+◌, ◌-◌, ◌*◌, length, get_or, drop, eqb, ltb}
 use Rattle.model.specs.Places.{pick}
 use Rattle.stg_text.specs.Fields.{feed, blank, digit}

@@ -1,12 +1,12 @@
 -- What reading and writing a text answer, and what the lent room then holds (order 9).
 --
---   readStgOf s cores kinds room    23 with the line at fault; then 13 where the list of kinds hasn't n + 2 places, 4 to 11 with the places
+--   read_stg_of s cores kinds room    23 with the line at fault; then 13 where the list of kinds hasn't n + 2 places, 4 to 11 with the places
 --                                   the records would have, and 15, as the writer of the record file gives them; else the file's length
---   readRoom s cores kinds out      the lent room after reading, where it held out
---   otherEnds h                     the graph has fewer than three vertices, another vertex than the first as source, another than the last
+--   read_room s cores kinds out      the lent room after reading, where it held out
+--   other_ends_of h                     the graph has fewer than three vertices, another vertex than the first as source, another than the last
 --                                   as sink, or either with a time above 0
---   writeStgOf s room               the record file's refusals; then 24 where the graph has other ends; then 15; else the text's length
---   writeRoom s out                 the lent room after writing, where it held out
+--   write_stg_of s room               the record file's refusals; then 24 where the graph has other ends; then 15; else the text's length
+--   write_room s out                 the lent room after writing, where it held out
 use Rattle.std.specs.Prelude.{Bool, not, ◌&&◌, ◌||◌, List, ℕ, ◌-◌, length, eqb, ltb}
 use Rattle.model.specs.Places.{pick, any}
 use Rattle.model.specs.Graph.{source, sink}

@@ -1,11 +1,11 @@
 -- The text that the writer writes (order 9: "one blank between fields, ascending predecessors, no leading zeros and no comments").
 --
---   digitsOf k x            the number x in decimal, without leading zeros, where k digits are enough
+--   digits_of k x            the number x in decimal, without leading zeros, where k digits are enough
 --   decimal x               the same for the numbers of a text, which have ten digits at most
 --   spaced xs               the numbers in decimal, one blank between two of them
 --   line_of xs               the same, ended by a line feed
 --   task_of n time pred v    the numbers of task v among n + 2: its place, its time, how many predecessors, and these, ascending
---   layOut n time pred      the text of n tasks with these times, where pred u v says that u is a predecessor of v
+--   lay_out_of n time pred      the text of n tasks with these times, where pred u v says that u is a predecessor of v
 --   text_of h                the text of the graph h that the record file's reader hands back
 use Rattle.std.specs.Prelude.{Bool, List, [], ◌∷◌, ◌++◌, ℕ, zero, suc, ◌+◌, ◌-◌, ◌/◌, ◌%◌, length, ltb}
 use Rattle.model.specs.Places.{pick, that}

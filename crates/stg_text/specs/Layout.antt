@@ -7,18 +7,18 @@
 --   ended s             how many lines end with a line feed
 --   begun s             how many lines there are, one without its line feed included
 --   tasks s             the task count n that line 0 says
---   countLine l         the line has one number, from 1 to 126
+--   count_line l         the line has one number, from 1 to 126
 --   task n v xs         the numbers xs are those of task v among n + 2: its number is its place; its time is 0 if it is the entry or
 --                       the exit; as many predecessors as it says, none above n + 1 and none twice
---   taskLine n v l      the line has only numbers, and they are those of task v
+--   task_line n v l      the line has only numbers, and they are those of task v
 --   skipped l           # comes first, after any blanks or tabs
 --   fits n i l          line i of a text of n tasks is as the layout has it there: the count, a task, or skipped
 --   faulty s i          line i does not end with a line feed, or is missing; or it is not as the layout has it
---   linesDue s          how many lines are looked at: those that there must be, and those that there are
---   faultAt s           the first line at fault, or linesDue
+--   lines_due s          how many lines are looked at: those that there must be, and those that there are
+--   fault_at s           the first line at fault, or lines_due
 --   LIMIT               a text has 65,536 bytes at most
 --   outside s           the text is outside the layout
---   faultOf s           the line that is named then: 0 for too long a text, else the first line at fault
+--   fault_of s           the line that is named then: 0 for too long a text, else the first line at fault
 use Rattle.std.specs.Prelude.{Bool, false, not, ◌&&◌, ◌||◌, List, [], ◌∷◌, ℕ, ◌+◌, ◌-◌, max, length, get_or, eqb, ltb, leb}
 use Rattle.model.specs.Places.{pick, bit, first}
 use Rattle.stg_text.specs.Fields.{pieces, all, distinct, feed, blank, numerals, numbers}

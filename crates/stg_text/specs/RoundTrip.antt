@@ -1,9 +1,9 @@
 -- The two round trips between a record file and its text (order 9), as claims over what reading and writing a text answer.
 --
---   coresOf s, kindsOf s     the lists of cores and of kinds that the record file s holds
+--   cores_for s, kinds_of s     the lists of cores and of kinds that the record file s holds
 --   ReadBack s size out      the text of s, written as size bytes to a room that held out: read with the cores and kinds of s it gives s
 --   Canonical t              t is laid out as the writer lays out, for some tasks, times of ten digits at most, and predecessors
---   fileGot t c k size out   the record file of size bytes that reading t, with the cores c and the kinds k, left in a room that held out
+--   file_got_of t c k size out   the record file of size bytes that reading t, with the cores c and the kinds k, left in a room that held out
 --   WrittenBack t f          the record file f, got from the text t: its text is t, and nothing but 24 or 15 says no to writing it
 use Rattle.std.specs.Prelude.{◌≡◌, Bool, List, ◌++◌, ℕ, ◌+◌, ◌^◌, ◌≤◌, ◌<◌, length, take, drop}
 use Rattle.model.specs.Places.{pick}

@@ -1,10 +1,10 @@
 -- What a text of the layout says: the lists that the writer of the record file takes, beside the lent cores and kinds.
 --
---   timeOf s v          the time of task v
---   beforeOf s v        the predecessors of task v, as they stand in its line
---   edgeIn s k          the edge k = u × 256 + v: u is a predecessor of task v
---   wcetsOf s           the times of the n + 2 tasks, as 32-bit numbers
---   edgesOf s           the edges, ascending by (from, to)
+--   time_of s v          the time of task v
+--   before_of s v        the predecessors of task v, as they stand in its line
+--   edge_said s k          the edge k = u × 256 + v: u is a predecessor of task v
+--   wcets_of s           the times of the n + 2 tasks, as 32-bit numbers
+--   edges_said s           the edges, ascending by (from, to)
 --   says s cores kinds  these lists together
 --
 -- A time that 32 bits can't hold is taken as the largest that they can: both are above 1,000,000, and number 7 says no to both.

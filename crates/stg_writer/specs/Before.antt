@@ -2,13 +2,13 @@
 --
 -- A graph as the code writes it: t is the table of each vertex's predecessors, s the set of those that are a predecessor, w the WCETs.
 --
---   joinsIn l u v i        edge i of the list l leads from u to v
+--   joins_in l u v i        edge i of the list l leads from u to v
 --   Gathered l m s t       t and s are those of the first m edges of the list l
---   otherEnd n t s v       of n vertices, v is another source than the first, or another sink than the last
---   endsOther n t s w      there is one; or there are fewer than three vertices, or the first or the last has a time above 0
---   lineIn t w v           the line of vertex v
---   linesIn n t w m        the count's line, and those of the first m vertices
---   textIn n t w           the text of n vertices
+--   other_end_of n t s v       of n vertices, v is another source than the first, or another sink than the last
+--   ends_other n t s w      there is one; or there are fewer than three vertices, or the first or the last has a time above 0
+--   line_in t w v           the line of vertex v
+--   lines_in n t w m        the count's line, and those of the first m vertices
+--   text_in n t w           the text of n vertices
 use Rattle.std.specs.Prelude.{◌≡◌, Bool, not, ◌&&◌, ◌||◌, List, [], ◌∷◌, ◌++◌, ℕ, ◌-◌, ◌<◌, length, get_or, eqb, ltb}
 use Rattle.model.specs.Places.{any}
 use Rattle.vset.specs.Members.{is_in}

@@ -4,8 +4,8 @@
 --
 --   many st u                 how many edges u has
 --   nth e st u k              where the k-th of them goes
---   goesTo e st u k x         one of the first k of them goes to x
---   mostOver e st s u k       the largest in the list s of the vertices that the first k of them go to, or 0
+--   goes_to_next e st u k x         one of the first k of them goes to x
+--   most_over e st s u k       the largest in the list s of the vertices that the first k of them go to, or 0
 --   Span st u                 the edges of u stand in the list
 --   Row e st u                the same, and they go to vertices
 --   Told e st b u k s s'      the list s, after the first k edges of u have raised what stands for each vertex x that they go to: to b x

@@ -3,21 +3,21 @@
 -- A text, as docs/BOARD.md has it: `t` is its bytes. Past its end it goes on with line feeds, so that each line and each word has an end.
 --
 --   byte_at t i        the byte at place i
---   isBlank b         a byte that parts words: space, tab, carriage return
+--   is_blank b         a byte that parts words: space, tab, carriage return
 --   ends b            a byte that ends a word: a blank, a line feed, `#`
 --   strange b         a byte that is no text
 --   stops w b         whether a search for w stops at byte b: w is 0 for a line feed, 1 for anything but a blank, 2 for what ends a word, 3 for a byte
 --                     that is no text, any other for a byte 0
 --   until w t i       the first place from i on that a search for w stops at; the text's end where there is none
---   lineAfter t i     where the line after that of place i begins
+--   line_after t i     where the line after that of place i begins
 --   part_of t i j      the bytes from place i up to place j; none where the text does not have them
 --   word_at t i        the word that stands at place i
---   wordAfter t i     where the line's next word begins, after the one at place i
+--   word_after t i     where the line's next word begins, after the one at place i
 --   same a b          whether two words are equal
---   isNamed t l w k   whether name k of the list l is the word w: the list has the places of the text at which the names stand
---   whichName t l n w which of the first n names of the list l is the word w; n where none is
---   isDigit b         a decimal digit
---   digitOf b         the digit that byte b is; 10 where it is none
+--   is_named_of t l w k   whether name k of the list l is the word w: the list has the places of the text at which the names stand
+--   which_name t l n w which of the first n names of the list l is the word w; n where none is
+--   is_digit b         a decimal digit
+--   digit_of b         the digit that byte b is; 10 where it is none
 --   decimal w n       the number that the first n bytes of w are, as decimal digits
 --   LARGE, NONE       what is said of a number too large, and of a word that is none
 --   grown n d         the number n with one digit d more

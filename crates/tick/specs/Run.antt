@@ -1,13 +1,13 @@
 -- The run record, the state of the model that it stands for, and a tick of it.
 --
 --   left_of r v           the ticks remaining of v
---   waitingOf r v        the number that is stored for v
+--   waiting_of r v        the number that is stored for v
 --   state_of r            the state that the record stands for
 --   awaited G c v        how many direct predecessors of v are unfinished, where c is what is left of each vertex (order 8)
---   recordOf G t s       the record of the state s of the graph G at the instant t; places from N on are zero
+--   record_for G t s       the record of the state s of the graph G at the instant t; places from N on are zero
 --   over g r             the run is finished: every vertex is
---   tickedOf g r         what a tick reports and hands back
---   ofReport x           what a tick reports in document 01's numbers: its value is 1 for moved and 0 for done
+--   ticked_of g r         what a tick reports and hands back
+--   of_report x           what a tick reports in document 01's numbers: its value is 1 for moved and 0 for done
 --   MOST                 the limit for an instant and all that remains from it on
 use Rattle.std.specs.Prelude.{Bool, not, ◌&&◌, ℕ, ◌+◌, get_or}
 use Rattle.model.specs.Places.{pick, count, every, padded}

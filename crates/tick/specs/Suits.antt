@@ -7,7 +7,7 @@
 --   SuitsBefore g r     document 01's sentences
 --   NumbersRight g r    order 8's: the stored numbers are those of unfinished direct predecessors, by the remainders
 --   Suits g r           both
---   suitsBefore, numbersRight, suits    the same as tests, in the same order; they compute     (proofs/Suiting: they tell them)
+--   suits_before, numbers_right, suits    the same as tests, in the same order; they compute     (proofs/Suiting: they tell them)
 use Rattle.std.specs.Prelude.{◌≡◌, Bool, true, false, not, ◌&&◌, ◌||◌, ℕ, ◌+◌, ◌≤◌, ◌<◌, eqb, ltb, leb, get_or}
 use Rattle.model.specs.Places.{count, every, sum}
 use Rattle.model.specs.Schedule.{Ready}

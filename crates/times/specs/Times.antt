@@ -1,8 +1,8 @@
 -- Execution times as a caller gives them (document 01, the numbers 13 and 14).
 --
---   timesOf e v         the execution time of v, by the list e
---   tooLong wcet e v    the time of v is above its WCET
---   judgeTimes g e      13 where the list's length isn't the vertex count, then 14 at the first vertex whose time is above its WCET
+--   times_of e v         the execution time of v, by the list e
+--   too_long_of wcet e v    the time of v is above its WCET
+--   judge_times g e      13 where the list's length isn't the vertex count, then 14 at the first vertex whose time is above its WCET
 --   Fitting g e         the times e are no refusal of 13 or 14
 use Rattle.std.specs.Prelude.{◌≡◌, Bool, List, ℕ, ◌≤◌, ◌<◌, eqb, ltb, get_or, length}
 use Rattle.model.specs.Places.{pick, first}

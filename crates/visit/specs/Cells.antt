@@ -7,7 +7,7 @@
 --                           rows of the parallel vertices, k the kinds, c the WCETs, sh the share that a core of each kind is
 --   Laid g e st             e is the edge list of g, and st where each vertex's edges begin
 --   cell_of l i              the cell at place i of the table l
---   cellWords c             the words of a cell
+--   cell_words c             the words of a cell
 --   Open G c                whatever path has its number among those of the cell: its value is that of the cell, carried on
 --   Stands G i k c          c is such a cell for the i-th vertex of a path, and its numbers begin at k or below
 --   Kept G l d k            the first d cells of l are so, and the path with the number k has them

@@ -3,10 +3,10 @@
 --
 --   num lo hi       the two words as one number
 --   has w k         the digit k of w is 1
---   isIn s k        k is a member of s
+--   is_in s k        k is a member of s
 --   Members s p     s is two words, and its members are the numbers for which the test p holds; there is one such set (proofs/Same)
 --   word_of p n      the word whose digits below n are 1 where p holds
---   setOf p         the set of the numbers below 128 for which p holds
+--   set_of p         the set of the numbers below 128 for which p holds
 use Rattle.std.specs.Prelude.{◌≡◌, Bool, ℕ, ◌+◌, ◌*◌, ◌/◌, ◌%◌, ◌^◌, ◌<◌, eqb}
 use Rattle.model.specs.Places.{bit, sum}
 use Rattle.vset.specs.declared.Vset.{Vset}

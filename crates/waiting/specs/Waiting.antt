@@ -5,13 +5,13 @@
 --
 --   entering l p m v                   how many of the first m edges of l lead to v from a vertex for which p holds
 --   leading l a b v                    how many of the edges from place a up to b lead to v
---   edgesBy starts                     the number of edges, by where the edges of each vertex begin
+--   edges_by starts                     the number of edges, by where the edges of each vertex begin
 --   Layout l starts                    l is a list of edges without a cycle, and `starts` says where the edges of each vertex begin
 --   Released w v busy s new r          one unfinished predecessor less for v
 --   Told l a b w busy s new r          the same along the edges from place a up to b
 --   Unsettled l m w busy behind done   the numbers, where those in `done` have not told their successors
 --   Settled l m w busy behind          the numbers, where nobody has anything left to tell
---   selfCounted p w busy behind        the numbers agree with themselves: each counts those in its row of the table p that are busy or stand behind
+--   self_counted p w busy behind        the numbers agree with themselves: each counts those in its row of the table p that are busy or stand behind
 use Rattle.std.specs.Prelude.{◌≡◌, Bool, true, false, not, ◌&&◌, ◌||◌, List, ℕ, ◌-◌, ◌≤◌, ◌<◌, eqb, ltb, leb, get_or, length, set}
 use Rattle.model.specs.Places.{count, every, table}
 use Rattle.vset.specs.declared.Vset.{Vset}

@@ -4,9 +4,9 @@
 -- nobody leads to, t is a table of numbers.
 --
 --   Counts G t         t has the number of paths from each vertex of G to a sink, cut; unused places are zero
---   onwardBy e st t u  the number of u, by those of the vertices that its edges go to: 1 where it has none
---   fromSource w t v   the number of v where it has no predecessor, else 0
---   wholeBy w t n      these added up
+--   onward_by e st t u  the number of u, by those of the vertices that its edges go to: 1 where it has none
+--   from_source_of w t v   the number of v where it has no predecessor, else 0
+--   whole_by w t n      these added up
 use Rattle.std.specs.Prelude.{◌≡◌, List, ℕ, ◌≤◌, ◌<◌, min, eqb, get_or, length}
 use Rattle.model.specs.Places.{pick, sum}
 use Rattle.model.specs.Graph.{Graph}

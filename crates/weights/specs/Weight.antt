@@ -2,9 +2,9 @@
 --
 -- What a vertex weighs (document 003, definition 3.1), by either measure, and the lists that it is made from.
 --
---   rateOf by m            what a tick weighs on a kind of m cores: plain, 1; scaled, PARTS - PARTS / m
---   ratesOf by m s         the same of the kind s, from the list m of cores
---   weightBy by G          the weight of each vertex of G: its WCET, or its scaled weight
+--   rate_of by m            what a tick weighs on a kind of m cores: plain, 1; scaled, PARTS - PARTS / m
+--   rates_of by m s         the same of the kind s, from the list m of cores
+--   weight_by by G          the weight of each vertex of G: its WCET, or its scaled weight
 --   stages k c m kinds n   the graph of n vertices of the kinds k, with the WCETs c, on kinds of m cores; edges do not count here
 --   Small G                the limits that keep every sum below 2^64
 use Rattle.std.specs.Prelude.{false, List, ℕ, ◌-◌, ◌*◌, ◌/◌, ◌≤◌, ◌<◌, get_or}

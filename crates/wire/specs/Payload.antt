@@ -2,13 +2,13 @@
 --
 -- What a request's payload holds: lists (4 bytes of the length in bytes, then the bytes) and numbers (8 bytes), low byte first. `p` is its bytes.
 --
---   twoBytes p i        the number of the 2 bytes from place i on
---   fourBytes p i       the number of the 4 bytes from place i on
---   listAt p i          where the bytes of the list that begins at place i start and end; not good where the payload has no list there
+--   two_bytes p i        the number of the 2 bytes from place i on
+--   four_bytes p i       the number of the 4 bytes from place i on
+--   list_at p i          where the bytes of the list that begins at place i start and end; not good where the payload has no list there
 --   number_at p i        the number that begins at place i, and where it ends; not good where the payload has no number there
 --   Within r p          the part r lies in the payload: also one that is not good, which is empty
---   laidIn k p l        how many numbers of k bytes are laid from p in l: as many as p has, and as l has places for
---   laidOver f n l      the list l with f 0, .. , f (n - 1) over its first n places
+--   laid_in k p l        how many numbers of k bytes are laid from p in l: as many as p has, and as l has places for
+--   laid_over f n l      the list l with f 0, .. , f (n - 1) over its first n places
 use Rattle.std.specs.Prelude.{true, false, List, ◌++◌, ℕ, ◌+◌, ◌*◌, ◌/◌, ◌≤◌, min, length, get_or, drop, leb}
 use Rattle.model.specs.Places.{pick, table}
 use Rattle.wire.specs.declared.Part.{Part}

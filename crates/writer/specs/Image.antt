@@ -2,8 +2,8 @@
 --
 -- The file as the code makes it, record by record in a table of its own. Only private contracts cite this: nothing here has to be believed.
 --
---   recordAt g a b k     record k of a file with a types and b vertices
---   part g a b e         the file of the first a types, b vertices and e edges (proofs/Part: of all of them it is fileOf)
+--   record_at_of g a b k     record k of a file with a types and b vertices
+--   part g a b e         the file of the first a types, b vertices and e edges (proofs/Part: of all of them it is file_of)
 --   seen g               the part up to one record more of each kind than is allowed (proofs/Cut: it is judged as the whole file is)
 --   imaged f n           the first n records in the table of 9,320 bytes, which 11 types, 129 vertices and 1,025 edges take
 use Rattle.std.specs.Prelude.{List, ◌++◌, ℕ, ◌+◌, ◌-◌, ◌*◌, min, length, replicate, ltb}

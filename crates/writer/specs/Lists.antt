@@ -2,10 +2,10 @@
 -- edges (16 bits, from × 256 + to)"), beside the reader's value.
 --
 --   Lists              a graph's four lists
---   listsIn h          the lists that the reader's value h holds: each as long as its count says
+--   lists_in h          the lists that the reader's value h holds: each as long as its count says
 --   lists_of s          the lists that the file s holds
 --   filled l xs        the list xs with zeros up to the length l
---   graphFrom g        the reader's value that holds the lists g, unused places zero
+--   graph_from g        the reader's value that holds the lists g, unused places zero
 use Rattle.std.specs.Prelude.{List, ◌++◌, ℕ, ◌-◌, length, take, replicate}
 use Rattle.graph.specs.File.{graph_of}
 use Rattle.graph.specs.declared.Graph.{Graph}

@@ -1,6 +1,6 @@
 -- For our own layers alone: no contract for callers and no claim cites this file.
 --
--- The two round trips between a file and its lists, as claims over what the reader gives (read_of) and the writer answers (wroteOf, roomAfter).
+-- The two round trips between a file and its lists, as claims over what the reader gives (read_of) and the writer answers (wrote_of, room_after).
 --
 --   WrittenBack s out     the lists of the reader's value for s, written to a room that held out: the bytes s stand there again
 --   ReadBack g size out   the lists g, written as size bytes to a room that held out: from these bytes the reader gives the lists

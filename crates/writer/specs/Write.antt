@@ -1,13 +1,13 @@
 -- The file of a graph's lists (document 01, "The file"), what the writer answers, and what the lent room then holds.
 --
---   typeRecord number cores          the 8 bytes of a type record
---   vertexRecord number kind wcet    the 8 bytes of a vertex record
---   edgeRecord edge                  the 8 bytes of an edge record
+--   type_record_of number cores          the 8 bytes of a type record
+--   vertex_record_of number kind wcet    the 8 bytes of a vertex record
+--   edge_record_of edge                  the 8 bytes of an edge record
 --   joined f n                       the lists f 0, .. , f (n - 1), one after the other
---   fileOf g                         all type records, then all vertex records, then all edge records
---   wroteOf g room                   the writer's answer where so many bytes are lent
---   ofWrote w                        the answer in document 01's numbers: its value is the file's length
---   roomAfter g out                  what the lent room holds at the end, where it held out
+--   file_of g                         all type records, then all vertex records, then all edge records
+--   wrote_of g room                   the writer's answer where so many bytes are lent
+--   of_wrote w                        the answer in document 01's numbers: its value is the file's length
+--   room_after g out                  what the lent room holds at the end, where it held out
 --
 -- A number is its record's place among its kind. Where the lists are too long for that to be a byte, they are refused.
 use Rattle.std.specs.Prelude.{List, [], ◌∷◌, ◌++◌, ℕ, zero, suc, ◌/◌, ◌%◌, length, get_or, drop, eqb, ltb}

@@ -10,10 +10,6 @@ returns-then-not-is_word c =
     let a = c.args in
     line-empty a.t.now a.names a.at _ c.until-first.ensures (no_word _ a.t.now _ c.is_word.ensures (not-true _ c.if-not-is_word.true-raw))
 
--- TODO no goal
--- slice-aggregate-word-is : tie.Need-slice-aggregate-word-is
--- slice-aggregate-word-is c = search rules
-
 pub returns-then-word_is : goal.returns-then-word_is
 returns-then-word_is c =
     let a = c.args in

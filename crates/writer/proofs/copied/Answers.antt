@@ -1,6 +1,5 @@
 use mathlib.Core.Path.{refl}
 use borrow.Author.Tests.{lt-ltb, le-ltb}
-use lib.Seq.{take-length}
 use Rattle.writer.proofs.copied.Goals as goal
 
 pub returns-then-out-size : goal.returns-then-out-size
