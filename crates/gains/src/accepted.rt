@@ -1,6 +1,9 @@
 // The gains of an accepted graph, over its lists as they are lent.
 ghost use Rattle.std.specs.Prelude.{◌≡◌, length};
+ghost use Rattle.model.specs.Places.{padded};
 ghost use Rattle.graph.specs.Model.{as_model};
+ghost use Rattle.weights.specs.Weight.{weight_by, stages, Small};
+ghost use Rattle.weights.specs.declared.Measure.TheVariants.{Scaled};
 ghost use Rattle.reader.specs.Laid.{graph_in, Usable};
 ghost use Rattle.gaining.specs.Gaining.{GainsIn};
 ghost use Rattle.gains.specs.Answers.{GainedIn, AlteredIn};
@@ -12,6 +15,21 @@ use graph::Refusal;
 use reader::Header;
 use summary::{afresh, altered};
 use weights::{Measure, weights};
+
+// A function of its own on the stack, so that the table in which the weights are made is gone when the summary is.
+#[inline(never)]
+fn scaled<'a>(
+    kind: &'a [u8; 128],
+    wcet: &'a [u32; 128],
+    cores: &'a [u8; 10],
+    kinds: usize,
+    n: usize,
+) -> [u64; 128]
+    requires { Small (stages kind.now wcet.now cores.now kinds n) }
+    ensures { result ≡ padded 128 (weight_by Scaled (stages kind.now wcet.now cores.now kinds n)) n }
+{
+    weights(kind, wcet, cores, kinds, n, Measure::Scaled)
+}
 
 // From the summary made afresh.
 pub(crate) fn table_of<'a>(
@@ -27,7 +45,7 @@ pub(crate) fn table_of<'a>(
     ensures { GainsIn (as_model (graph_in h cores.now kind.now wcet.now edge.now)) result }
 {
     let n = h.n;
-    let weight = weights(kind, wcet, cores, h.kinds, n, Measure::Scaled);
+    let weight = scaled(kind, wcet, cores, h.kinds, n);
     let summary = afresh(edge, start, order, n, &weight);
     table::gains(edge, start, order, n, &weight, wcet, summary)
 }

@@ -83,13 +83,16 @@ pub fn longest(
     requires { (g : Graph) × Weighed g edge.now start.now order.now n weight.now × Sources g led.now }
     ensures { (g : Graph) → Weighed g edge.now start.now order.now n weight.now → Sources g led.now → Summed (as_model g) (weigh weight.now) result }
 {
-    let mut sums = [0u64; 128];
+    let mut sums = Sums {
+        ahead: [0u64; 128],
+        head: 0,
+    };
     let mut j = n;
     while 0 < j {
         j -= 1;
         let u = order[j] as usize;
-        sums[u] = most_ahead(edge, start, weight, &sums, u);
+        sums.ahead[u] = most_ahead(edge, start, weight, &sums.ahead, u);
     }
-    let head = foremost(weight, &sums, led, n, order[0] as usize);
-    Sums { ahead: sums, head }
+    sums.head = foremost(weight, &sums.ahead, led, n, order[0] as usize);
+    sums
 }

@@ -6,19 +6,19 @@ use Rattle.gaining.proofs.Accepted.{usable_weighed, usable_gainable}
 use Rattle.gains.proofs.accepted.table_of.Goals as goal
 use Rattle.gains.proofs.accepted.table_of.Goals.{After-afresh-summary}
 
-pub weights-weight-requires : goal.weights-weight-requires
-weights-weight-requires c = small-stages c.requires.accepted
+pub scaled-weight-requires : goal.scaled-weight-requires
+scaled-weight-requires c = small-stages c.requires.accepted
 
 pub afresh-summary-requires : goal.afresh-summary-requires
-afresh-summary-requires c = (_, usable_weighed c.requires c.weights-weight.ensures)
+afresh-summary-requires c = (_, usable_weighed c.requires c.scaled-weight.ensures)
 
 -- the summary of the graph that the lists are
-summed : (c : After-afresh-summary) → Tables (as_model (graph_in c.args.h c.args.cores.now c.args.kind.now c.args.wcet.now c.args.edge.now)) c.weights-weight.result c.afresh-summary.result
-summed c = c.afresh-summary.ensures _ (usable_weighed c.requires c.weights-weight.ensures)
+summed : (c : After-afresh-summary) → Tables (as_model (graph_in c.args.h c.args.cores.now c.args.kind.now c.args.wcet.now c.args.edge.now)) c.scaled-weight.result c.afresh-summary.result
+summed c = c.afresh-summary.ensures _ (usable_weighed c.requires c.scaled-weight.ensures)
 
 pub gains-requires : goal.gains-requires
-gains-requires c = (_, usable_gainable c.requires c.weights-weight.ensures (summed (goal.at.gains-requires c).After-afresh-summary))
+gains-requires c = (_, usable_gainable c.requires c.scaled-weight.ensures (summed (goal.at.gains-requires c).After-afresh-summary))
 
 pub returns : goal.returns
 returns c =
-    c.gains.ensures _ (usable_gainable c.requires c.weights-weight.ensures (summed (goal.at.returns c).After-afresh-summary))
+    c.gains.ensures _ (usable_gainable c.requires c.scaled-weight.ensures (summed (goal.at.returns c).After-afresh-summary))

@@ -23,7 +23,7 @@ overflow_cast-u c =
 pub most_ahead-requires : goal.most_ahead-requires
 most_ahead-requires c =
     let l = c.loop-j in
-    done_visitable c.requires.1 l.sums l.j (l.j - 1) (omega arith) l.invariant.0 l.invariant.1
+    done_visitable c.requires.1 l.sums.ahead l.j (l.j - 1) (omega arith) l.invariant.0 l.invariant.1
 
 -- the place that is stored to
 vertex : (c : After-most_ahead) → get_or c.args.order.now (c.loop-j.j - 1) 0 < 128
@@ -40,22 +40,22 @@ bounds-sums-u c = vertex c
 pub loop-j-preserved : goal.loop-j-preserved
 loop-j-preserved c =
     let l = c.loop-j in
-    (search rules, done_more c.requires.1 l.sums l.j (l.j - 1) (omega arith) l.invariant.0 l.invariant.1 c.most_ahead.result c.most_ahead.ensures)
+    (search rules, done_more c.requires.1 l.sums.ahead l.j (l.j - 1) (omega arith) l.invariant.0 l.invariant.1 c.most_ahead.result c.most_ahead.ensures)
 
 pub overflow_cast-order : goal.overflow_cast-order
 overflow_cast-order c =
     let p = c.requires.1 in
     omega (arith, done-vertex p 0 (omega (arith, p.vertices, p.rows.accepted.some_vertex)))
 
-pub foremost-head-requires : goal.foremost-head-requires
-foremost-head-requires c =
+pub foremost-requires : goal.foremost-requires
+foremost-requires c =
     let l = c.loop-j in
     let e : l.j ≡ 0 = omega arith in
     let p = c.requires in
-    done-comparable p.1 l.sums _ (rw e at l.invariant.1) p.2
+    done-comparable p.1 l.sums.ahead _ (rw e at l.invariant.1) p.2
 
 pub returns : goal.returns
 returns c g T S =
     let l = c.loop-j in
     let e : l.j ≡ 0 = omega arith in
-    done-summed T l.sums _ (rw e at l.invariant.1) S c.foremost-head.result c.foremost-head.ensures
+    done-summed T l.sums.ahead _ (rw e at l.invariant.1) S c.foremost.result c.foremost.ensures
