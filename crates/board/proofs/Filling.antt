@@ -3,10 +3,10 @@ use mathlib.Core.Path.{◌≡◌, refl, sym, ◌∙◌}
 use mathlib.Core.List.{List}
 use Prim.Native.Nat.{ℕ, ◌%◌, ◌≤◌, ◌<◌}
 use native.Mathlib.Omega.{arith}
-use lib.ListN.{length, get_or}
+use lib.ListN.{get_or}
 use lib.Seq.{take_all}
 use borrow.Author.Tests.{lt-ltb, le-ltb}
-use Rattle.model.specs.Places.{pick, table, padded}
+use Rattle.model.specs.Places.{table, padded}
 use Rattle.model.proofs.Tables.{padded-length, padded-take}
 use Rattle.texts.specs.Text.{word_at, word_after, which_name, number_of}
 use Rattle.board.specs.declared.Names.{Names}

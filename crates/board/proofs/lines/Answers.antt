@@ -1,4 +1,3 @@
-use Prim.Native.Nat.{◌-◌}
 use native.Mathlib.Omega.{arith}
 use Rattle.board.proofs.Passing.{reading_none, reading_ends, reading_more, reading_stops}
 use Rattle.board.proofs.lines.Goals as goal

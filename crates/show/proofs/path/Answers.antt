@@ -1,3 +1,4 @@
+-- No more vertices than there is room for.
 use mathlib.Core.Path.{◌≡◌}
 use native.Mathlib.Omega.{arith}
 use lib.ListN.{length}

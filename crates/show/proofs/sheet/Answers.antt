@@ -1,3 +1,4 @@
+-- The reader's answer; what is printed of an accepted graph rests on its being one.
 use mathlib.Core.Path.{ap, sym, ◌∙◌}
 use Rattle.graph.specs.Model.{AcceptedGraph}
 use Rattle.graph.specs.declared.Taken.{Taken}
@@ -8,7 +9,7 @@ use Rattle.show.proofs.sheet.Goals.{In-Accepted}
 -- the reader's graph, where it accepts
 accepted : (c : In-Accepted) → AcceptedGraph c.read-taken.result.graph
 accepted c =
-    read-accepted c.args.file.now c.read-taken.ensures (λ i. (c.shared_slice_known-1.given i).fits) c.in-Accepted.is
+    read-accepted c.args.file.now c.read-taken.ensures (λ i. (c.type_inv.file i).fits) c.in-Accepted.is
 
 pub figures-requires : goal.figures-requires
 figures-requires c = accepted (goal.at.figures-requires c).In-Accepted

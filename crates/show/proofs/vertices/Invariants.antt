@@ -1,3 +1,4 @@
+-- Nothing but that the list is read inside its bounds.
 use Prim.Native.Nat.{◌-◌, ◌≤◌}
 use Rattle.show.proofs.vertices.Given as goal
 

@@ -1,4 +1,3 @@
-use mathlib.Core.Logic.{⊎_elim}
 use Rattle.texts.proofs.Cutting.{part-there, part_back, part-past}
 use Rattle.texts.proofs.part.Goals as goal
 use Rattle.texts.proofs.part.Goals.{then-start-end+else-end-t, else-start-end}

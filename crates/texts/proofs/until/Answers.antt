@@ -1,5 +1,4 @@
 use mathlib.Core.Path.{◌∙◌, sym, ap}
-use Prim.Native.Nat.{◌-◌}
 use native.Mathlib.Omega.{arith}
 use Rattle.texts.specs.Text.{byte_at, stops}
 use Rattle.texts.proofs.Cutting.{within, passed_more, found, not_found}
