@@ -1,7 +1,7 @@
 // `plan late FILE TIMES D`: whether the run at the times of a text ends by tick D, and how many ticks of it were played to see that. No is no answer that a
 // release script goes on with, so that its exit status is 1.
 use crate::run::{TIMES, Times};
-use crate::{run, times};
+use crate::{run, stage_times};
 use board::Names;
 use graph::{Answer, Graph};
 use input::word;
@@ -36,7 +36,7 @@ fn with_words(
     said: &[u8],
     tick: &[u8],
 ) -> u8 {
-    let timed = times::of(said, t, names, g);
+    let timed = stage_times::of(said, t, names, g);
     let f = timed.fault;
     if f.row != faults::FINE {
         return input::status(reasons::fault::of_text(rt, TIMES, said, f), input::NO);

@@ -1,6 +1,6 @@
 // `plan replay FILE LOG`: the finish of a recorded frame, and how long each stage took. `plan log FILE [TIMES]`: the log of a run.
 use crate::run::{TIMES, Times};
-use crate::{run, times};
+use crate::{run, stage_times};
 use board::Names;
 use graph::{Graph, Refusal};
 use replay::Replayed;
@@ -84,7 +84,7 @@ pub fn with_text(
     said: &[u8],
     room: &mut [u8],
 ) -> Made {
-    let timed = times::of(said, t, names, g);
+    let timed = stage_times::of(said, t, names, g);
     let f = timed.fault;
     if f.row != faults::FINE {
         let status = input::status(reasons::fault::of_text(rt, TIMES, said, f), input::NO);
@@ -96,7 +96,7 @@ pub fn with_text(
 
 // The log of the run at every stage's WCET.
 pub fn at_wcets(rt: &impl Env, t: &[u8], g: Graph, file: &[u8], room: &mut [u8]) -> Made {
-    logged(rt, g.n, file, t, times::full(g), room)
+    logged(rt, g.n, file, t, stage_times::full(g), room)
 }
 
 fn said(made: Made, room: &[u8]) -> u8 {

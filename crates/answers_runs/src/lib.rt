@@ -5,4 +5,4 @@
 pub mod by_tick;
 pub mod frame;
 pub mod run;
-mod times;
+mod stage_times;

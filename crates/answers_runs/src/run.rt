@@ -1,5 +1,5 @@
 // `plan run FILE [TIMES]`: the finish, and each stage's finish instant.
-use crate::times;
+use crate::stage_times;
 use board::Names;
 use graph::{Graph, Refusal};
 use schedule::Played;
@@ -57,7 +57,7 @@ fn answer(
 
 // The run at the times of a text.
 fn with_text(rt: &impl Env, t: &[u8], names: Names, g: Graph, file: &[u8], said: &[u8]) -> u8 {
-    let timed = times::of(said, t, names, g);
+    let timed = stage_times::of(said, t, names, g);
     let f = timed.fault;
     if f.row != faults::FINE {
         return input::status(reasons::fault::of_text(rt, TIMES, said, f), input::NO);
@@ -78,5 +78,5 @@ pub fn timed(rt: &(impl Env + Files + Input), t: &[u8], names: Names, g: Graph, 
 
 // The run at every stage's WCET.
 pub fn full(rt: &impl Env, t: &[u8], names: Names, g: Graph, file: &[u8]) -> u8 {
-    answer(rt, t, names, g.n, file, t, times::full(g))
+    answer(rt, t, names, g.n, file, t, stage_times::full(g))
 }

@@ -1,5 +1,5 @@
 use Prim.Native.Nat.{◌-◌, ◌≤◌}
-use Rattle.answers_runs.proofs.times.full.Given as goal
+use Rattle.answers_runs.proofs.stage_times.full.Given as goal
 
 abbrev pub invariant-loop-v : goal.invariant-loop-v
 invariant-loop-v l = l.v ≤ 128

@@ -1,6 +1,6 @@
 use Prim.Native.Nat.{◌-◌}
 use lib.ListN.{length}
-use Rattle.answers_runs.proofs.times.start.Given as goal
+use Rattle.answers_runs.proofs.stage_times.start.Given as goal
 
 abbrev pub invariant-loop-i : goal.invariant-loop-i
 invariant-loop-i l = Unit {0}

@@ -1,5 +1,5 @@
 use Prim.Native.Nat.{◌-◌, ◌≤◌}
-use Rattle.answers_runs.proofs.times.listed.Given as goal
+use Rattle.answers_runs.proofs.stage_times.listed.Given as goal
 
 abbrev pub invariant-loop-i : goal.invariant-loop-i
 invariant-loop-i l = l.i ≤ l.i-end
