@@ -2,22 +2,14 @@
 ghost use Rattle.graph.specs.Model.{AcceptedGraph};
 
 use board::Names;
-use bounds::Pathed;
 use graph::Graph;
+use input::Failure;
 
 // How many vertices the path has, which stand in the room.
 pub fn found(g: Graph, room: &mut [u8]) -> usize
     requires { AcceptedGraph g }
 {
-    let found = bounds::path_into(g, room);
-    match found {
-        Pathed::Vertices(n) => n,
-        Pathed::Refused(_) => 0,
-    }
-}
-
-fn front(list: &[u8], n: usize) -> &[u8] {
-    if n <= list.len() { &list[..n] } else { list }
+    bounds::path_into(g, room).unwrap_or(0)
 }
 
 fn lines(t: &[u8], names: Names, g: Graph, path: &[u8]) -> bool
@@ -25,19 +17,19 @@ fn lines(t: &[u8], names: Names, g: Graph, path: &[u8]) -> bool
 {
     let gain = gains::table(g);
     let list = ranks::ranking(&gain, g.n);
-    let found = second::of_graph(g);
-    let sheet = say::sheet::lines(bounds::figures(g), found, g, path, front(&list, g.n));
+    let second = second::of_graph(g).ok();
+    let sheet = say::sheet::lines(bounds::figures(g), second, g, path, &list[..g.n.min(128)]);
     if names.stages == 0 {
         return sheet;
     }
     sheet & say::sheet::table(t, names, g, path)
 }
 
-pub fn answer(t: &[u8], names: Names, g: Graph) -> u8
+pub fn answer(t: &[u8], names: Names, g: Graph) -> Result<(), Failure>
     requires { AcceptedGraph g }
 {
     let mut path = [0u8; 128];
     let n = found(g, &mut path);
-    let written = lines(t, names, g, front(&path, n));
-    input::status(written, input::ANSWER)
+    let written = lines(t, names, g, &path[..n.min(128)]);
+    input::answer(written)
 }

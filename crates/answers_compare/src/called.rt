@@ -3,58 +3,43 @@
 use board::Names;
 use boards::Point;
 
-// Rows beside those of `boards`: a type that has another name, a stage that has.
-pub(crate) const KIND_NAME: u8 = 8;
-
-pub(crate) const STAGE_NAME: u8 = 9;
-
-// The first type whose names differ; as many as there are where none does.
-fn kind_renamed(t: &[u8], names: Names, u: &[u8], other: Names) -> usize {
-    for k in 0..10 {
-        let name = say::names::of_kind(t, names, k);
-        if !texts::equal(name, say::names::of_kind(u, other, k)) {
-            return k;
-        }
-    }
-    names.kinds
+// What `boards` says of the two, or a name: a type that has another one, a stage that has.
+#[derive(Clone, Copy)]
+pub(crate) enum Difference {
+    Board(Point),
+    KindName(usize),
+    StageName(usize),
 }
 
-fn stage_renamed(t: &[u8], names: Names, u: &[u8], other: Names) -> usize {
-    for v in 0..128 {
-        let name = say::names::of_stage(t, names, v);
-        if !texts::equal(name, say::names::of_stage(u, other, v)) {
-            return v;
-        }
-    }
-    names.stages
+// The first type whose names differ.
+fn kind_renamed(t: &[u8], names: Names, u: &[u8], other: Names) -> Option<usize> {
+    (0..names.kinds.min(10)).find(|k| {
+        !texts::equal(
+            say::names::of_kind(t, names, *k),
+            say::names::of_kind(u, other, *k),
+        )
+    })
 }
 
-fn renamed(t: &[u8], names: Names, u: &[u8], other: Names, p: Point) -> Point {
-    let kind = kind_renamed(t, names, u, other);
-    if kind < names.kinds {
-        return Point {
-            row: KIND_NAME,
-            at: kind,
-        };
-    }
-    let stage = stage_renamed(t, names, u, other);
-    if stage < names.stages {
-        return Point {
-            row: STAGE_NAME,
-            at: stage,
-        };
-    }
-    p
+fn stage_renamed(t: &[u8], names: Names, u: &[u8], other: Names) -> Option<usize> {
+    (0..names.stages.min(128)).find(|v| {
+        !texts::equal(
+            say::names::of_stage(t, names, *v),
+            say::names::of_stage(u, other, *v),
+        )
+    })
 }
 
 // The first point in which the second board is not as good, its names looked at once there are as many types and stages.
-pub(crate) fn first_fault(t: &[u8], names: Names, u: &[u8], other: Names, p: Point) -> Point {
-    let row = p.row;
-    if (row == boards::KINDS) | (row == boards::STAGES) {
-        return p;
+pub(crate) fn first_fault(t: &[u8], names: Names, u: &[u8], other: Names, p: Point) -> Difference {
+    if matches!(p, Point::Kinds | Point::Stages) | (names.stages == 0) | (other.stages == 0) {
+        return Difference::Board(p);
     }
-    if (names.stages == 0) | (other.stages == 0) {
-        return p;
+    if let Some(k) = kind_renamed(t, names, u, other) {
+        return Difference::KindName(k);
     }
-    renamed(t, names, u, other, p)
+    if let Some(v) = stage_renamed(t, names, u, other) {
+        return Difference::StageName(v);
+    }
+    Difference::Board(p)
 }

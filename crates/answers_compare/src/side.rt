@@ -1,10 +1,12 @@
 // The numbers of two sheets, which of them may be compared, and what is promised. OLD-B may rise where hardware is better, so that it is never among them.
+use crate::called::Difference;
 use board::Names;
 use boards::Point;
-use bounds::Bounded;
-use graph::{Answer, Graph};
+use bounds::BothBounds;
+use graph::Graph;
 use say::{names, out};
-use second::Seconded;
+use starts::{from, to};
+use units::Parts;
 
 fn figure(name: &[u8], a: u64, b: u64) -> bool {
     out::text(name) & out::field(a) & out::field(b) & out::end()
@@ -16,27 +18,20 @@ pub(crate) fn counts(g: Graph, h: Graph) -> bool {
     kinds & stages & figure(b"edges", g.edges as u64, h.edges as u64)
 }
 
-fn found(r: Seconded) -> bool {
-    let answer = r.answer;
-    match answer {
-        Answer::Accepted => true,
-        Answer::Refused(_) => false,
+// NEW-B-2, where there is one.
+fn second_field(second: Option<Parts>) -> bool {
+    match second {
+        Some(parts) => out::field(parts.0),
+        None => out::text(b" none"),
     }
 }
 
-// Whether both graphs have a NEW-B-2.
-pub(crate) fn both(a: Seconded, b: Seconded) -> bool {
-    found(a) & found(b)
-}
-
-fn second_field(r: Seconded) -> bool {
-    if found(r) {
-        return out::field(r.parts.0);
-    }
-    out::text(b" none")
-}
-
-pub(crate) fn figures(a: Bounded, b: Bounded, first: Seconded, then: Seconded) -> bool {
+pub(crate) fn figures(
+    a: BothBounds,
+    b: BothBounds,
+    first: Option<Parts>,
+    then: Option<Parts>,
+) -> bool {
     let old = figure(b"old", a.old.0, b.old.0) & figure(b"new", a.new.0, b.new.0);
     let second = out::text(b"second") & second_field(first) & second_field(then) & out::end();
     old & second & figure(b"ticks", a.ticks.0, b.ticks.0)
@@ -73,14 +68,6 @@ fn stage(t: &[u8], of: Names, u: &[u8], other: Names, v: usize) -> bool {
     out::text(b"stage ") & named(names::of_stage(t, of, v), names::of_stage(u, other, v), v)
 }
 
-fn from(edge: u16) -> usize {
-    (edge / 256) as usize
-}
-
-fn to(edge: u16) -> usize {
-    (edge % 256) as usize
-}
-
 fn edge_of(h: Graph, i: usize) -> u16 {
     if i < 1024 { h.edge[i] } else { 0 }
 }
@@ -95,18 +82,28 @@ fn called(name: &[u8]) -> bool {
 }
 
 // The first point that fails.
-fn fault(t: &[u8], of: Names, u: &[u8], other: Names, h: Graph, p: Point) -> bool {
-    let row = p.row;
-    let at = p.at;
-    match row {
-        2 => out::text(b"another number of types"),
-        3 => out::text(b"another number of stages"),
-        4 => kind(t, of, u, other, at) & out::text(b" has fewer cores"),
-        5 => stage(t, of, u, other, at) & out::text(b" has another type"),
-        6 => stage(t, of, u, other, at) & out::text(b" has a larger WCET"),
-        7 => waits(t, of, u, other, edge_of(h, at)),
-        8 => kind(t, of, u, other, at) & called(names::of_kind(u, other, at)),
-        _ => stage(t, of, u, other, at) & called(names::of_stage(u, other, at)),
+fn fault(t: &[u8], of: Names, u: &[u8], other: Names, h: Graph, d: Difference) -> bool {
+    match d {
+        Difference::Board(p) => point(t, of, u, other, h, p),
+        Difference::KindName(k) => {
+            kind(t, of, u, other, k) & called(names::of_kind(u, other, k))
+        }
+        Difference::StageName(v) => {
+            stage(t, of, u, other, v) & called(names::of_stage(u, other, v))
+        }
+    }
+}
+
+fn point(t: &[u8], of: Names, u: &[u8], other: Names, h: Graph, p: Point) -> bool {
+    match p {
+        Point::Kinds => out::text(b"another number of types"),
+        Point::Stages => out::text(b"another number of stages"),
+        Point::Cores(k) => kind(t, of, u, other, k) & out::text(b" has fewer cores"),
+        Point::Kind(v) => stage(t, of, u, other, v) & out::text(b" has another type"),
+        Point::Wcet(v) => stage(t, of, u, other, v) & out::text(b" has a larger WCET"),
+        Point::Edge(i) => waits(t, of, u, other, edge_of(h, i)),
+        // Of these something is promised.
+        Point::AsGood | Point::FewerEdges => true,
     }
 }
 
@@ -117,18 +114,19 @@ pub(crate) fn promise(
     u: &[u8],
     other: Names,
     h: Graph,
-    p: Point,
+    d: Difference,
     both: bool,
 ) -> bool {
-    let row = p.row;
-    if row > boards::FEWER_EDGES {
-        return out::text(b"no promise: ") & fault(t, of, u, other, h, p) & out::end();
+    match d {
+        Difference::Board(Point::AsGood) if both => {
+            out::text(b"promise: new, second and ticks do not rise\n")
+        }
+        Difference::Board(Point::FewerEdges) if both => out::text(
+            b"promise: new and ticks do not rise; second may, as there are fewer edges\n",
+        ),
+        Difference::Board(Point::AsGood | Point::FewerEdges) => {
+            out::text(b"promise: new and ticks do not rise\n")
+        }
+        _ => out::text(b"no promise: ") & fault(t, of, u, other, h, d) & out::end(),
     }
-    if !both {
-        return out::text(b"promise: new and ticks do not rise\n");
-    }
-    if row == boards::NONE {
-        return out::text(b"promise: new, second and ticks do not rise\n");
-    }
-    out::text(b"promise: new and ticks do not rise; second may, as there are fewer edges\n")
 }

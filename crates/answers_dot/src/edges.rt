@@ -3,33 +3,24 @@ use crate::places;
 use graph::Graph;
 use say::out;
 
-fn from(edge: u16) -> usize {
-    (edge / 256) as usize
-}
-
-fn to(edge: u16) -> usize {
-    (edge % 256) as usize
-}
-
 // Whether places of two stages are those of neighbours on the path.
-fn is_next(first: usize, then: usize) -> bool {
-    if first == 0 {
-        return false;
+fn is_next(first: Option<usize>, then: Option<usize>) -> bool {
+    match (first, then) {
+        (Some(i), Some(j)) => i < j && j - i == 1,
+        _ => false,
     }
-    if then == 0 {
-        return false;
-    }
-    then - 1 == first
 }
 
-fn thickness(first: usize, then: usize) -> bool {
+fn thickness(first: Option<usize>, then: Option<usize>) -> bool {
     if is_next(first, then) {
         return out::text(b" [penwidth=4]");
     }
     true
 }
 
-fn line(u: usize, v: usize, place: &[usize; 128]) -> bool {
+fn line(edge: u16, place: &[Option<usize>; 128]) -> bool {
+    let u = (edge / 256) as usize;
+    let v = (edge % 256) as usize;
     let ends = out::text(b"  n")
         & out::number(u as u64)
         & out::text(b" -> n")
@@ -37,18 +28,10 @@ fn line(u: usize, v: usize, place: &[usize; 128]) -> bool {
     ends & thickness(places::of(place, u), places::of(place, v)) & out::text(b";\n")
 }
 
-fn listed(edge: &[u16; 1024], n: usize, place: &[usize; 128]) -> bool {
+pub(crate) fn lines(g: Graph, place: &[Option<usize>; 128]) -> bool {
     let mut written = true;
-    for i in 0..1024 {
-        if i >= n {
-            return written;
-        }
-        written = written & line(from(edge[i]), to(edge[i]), place);
+    for edge in g.edge.iter().take(g.edges) {
+        written &= line(*edge, place);
     }
     written
-}
-
-pub(crate) fn lines(g: Graph, place: &[usize; 128]) -> bool {
-    let edge = g.edge;
-    listed(&edge, g.edges, place)
 }

@@ -1,5 +1,5 @@
 // `plan dot FILE`: the graph as graphviz's dot takes it, with the path in thick lines and a colour for each type. As in `answers`, g is the graph of an accepted
-// file, t the bytes that gave it, with the names that they have, and the answer is the exit status, which no contract can say.
+// file, t the bytes that gave it, with the names that they have.
 #![tactic(auto)]
 
 mod colours;
@@ -11,6 +11,7 @@ ghost use Rattle.graph.specs.Model.{AcceptedGraph};
 
 use board::Names;
 use graph::Graph;
+use input::Failure;
 use say::out;
 
 fn head() -> bool {
@@ -18,7 +19,7 @@ fn head() -> bool {
     graph & out::text(b"  node [shape=box, style=filled, fontname=\"sans-serif\"];\n")
 }
 
-pub fn answer(t: &[u8], names: Names, g: Graph) -> u8
+pub fn answer(t: &[u8], names: Names, g: Graph) -> Result<(), Failure>
     requires { AcceptedGraph g }
 {
     let gain = gains::table(g);
@@ -26,5 +27,5 @@ pub fn answer(t: &[u8], names: Names, g: Graph) -> u8
     let n = answers::sheet::found(g, &mut path);
     let place = places::along(texts::part(&path, 0, n));
     let drawn = head() & nodes::lines(t, names, g, &place, &gain) & edges::lines(g, &place);
-    input::status(drawn & out::text(b"}\n"), input::ANSWER)
+    input::answer(drawn & out::text(b"}\n"))
 }

@@ -1,21 +1,16 @@
 // Where each stage stands on the path.
 
-fn index(v: u8) -> usize {
-    v as usize
-}
-
-// The place of each stage on the path, the first 1; 0 where it isn't on it.
-pub(crate) fn along(path: &[u8]) -> [usize; 128] {
-    let mut place = [0usize; 128];
-    for i in 0..path.len() {
-        let v = index(path[i]);
-        if v < 128 {
-            place[v] = i + 1;
+// The place of each stage that stands on the path, the first 0.
+pub(crate) fn along(path: &[u8]) -> [Option<usize>; 128] {
+    let mut place = [None; 128];
+    for (i, v) in path.iter().enumerate() {
+        if *v < 128 {
+            place[*v as usize] = Some(i);
         }
     }
     place
 }
 
-pub(crate) fn of(place: &[usize; 128], v: usize) -> usize {
-    if v < 128 { place[v] } else { 0 }
+pub(crate) fn of(place: &[Option<usize>; 128], v: usize) -> Option<usize> {
+    if v < 128 { place[v] } else { None }
 }

@@ -1,10 +1,10 @@
 // `plan enough FILE TYPE TICKS`: how many cores of a type are enough for NEW-B-1 to be within so many ticks, all else as declared. As in `answers`, t are the
-// bytes that gave the accepted file, with the names that they have, and the answer is the exit status, which no contract can say.
+// bytes that gave the accepted file, with the names that they have.
 #![tactic(auto)]
 
 use board::Names;
-use graph::{Answer, Refusal};
-use input::word;
+use graph::Refusal;
+use input::{Failure, word};
 use say::out;
 use std::rt::Env;
 
@@ -21,53 +21,45 @@ fn reason(w: &[u8], r: Refusal) -> bool {
     out::text(b"TICKS: 16 cores of type \"") & out::text(w) & out::text(b"\" are too few\n")
 }
 
-fn answer(file: &[u8], w: &[u8], k: u32, limit: u32) -> u8 {
-    let fewest = enough::enough(file, k, limit);
-    let answer = fewest.answer;
-    match answer {
-        Answer::Accepted => {
-            let cores = fewest.cores as u64;
-            input::status(
-                out::text(b"cores") & out::field(cores) & out::end(),
-                input::ANSWER,
-            )
+fn answer(file: &[u8], w: &[u8], k: u32, limit: u32) -> Result<(), Failure> {
+    match enough::enough(file, k, limit) {
+        Ok(cores) => {
+            let cores = u64::from(cores);
+            input::answer(out::text(b"cores") & out::field(cores) & out::end())
         }
-        Answer::Refused(r) => {
+        Err(r) => {
             let first = out::refused(r);
-            input::status(first & reason(w, r), input::NO)
+            Err(input::no(first & reason(w, r)))
         }
     }
 }
 
 // The type is looked at before the limit.
-fn with_words(t: &[u8], names: Names, file: &[u8], w: &[u8], limit: &[u8]) -> u8 {
-    let places = names.kind;
-    let k = word::named(t, &places, names.kinds, w);
-    if k.row != faults::FINE {
-        let said = reasons::fault::said_argument(b"TYPE", k.row, w);
-        return input::status(said, input::NO);
-    }
-    let row = word::fault(limit);
-    if row != faults::FINE {
-        let said = reasons::fault::said_argument(b"TICKS", row, limit);
-        return input::status(said, input::NO);
-    }
-    answer(file, w, k.number, word::number(limit))
+fn with_words(t: &[u8], names: Names, file: &[u8], w: &[u8], limit: &[u8]) -> Result<(), Failure> {
+    let k = match word::named(t, &names.kind, names.kinds, w) {
+        Ok(k) => k,
+        Err(what) => return Err(input::no(reasons::fault::said_argument(b"TYPE", what, w))),
+    };
+    let ticks = match word::number(limit) {
+        Ok(ticks) => ticks,
+        Err(what) => return Err(input::no(reasons::fault::said_argument(b"TICKS", what, limit))),
+    };
+    answer(file, w, k, ticks)
 }
 
-pub fn fewest(rt: &impl Env, t: &[u8], names: Names, file: &[u8]) -> u8 {
+pub fn fewest(rt: &impl Env, t: &[u8], names: Names, file: &[u8]) -> Result<(), Failure> {
     let mut kind = io::buffer();
     let mut limit = io::buffer();
     let k = input::argument(rt, TYPE, &mut kind);
     let l = input::argument(rt, TICKS, &mut limit);
-    if !(k.good & l.good) {
-        return input::wrong(b"TYPE and TICKS have at most 4096 bytes");
-    }
+    let (Some(k), Some(l)) = (k, l) else {
+        return Err(input::wrong(b"TYPE and TICKS have at most 4096 bytes"));
+    };
     with_words(
         t,
         names,
         file,
-        texts::part(&kind, 0, k.n),
-        texts::part(&limit, 0, l.n),
+        texts::part(&kind, 0, k),
+        texts::part(&limit, 0, l),
     )
 }

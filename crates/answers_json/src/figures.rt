@@ -1,9 +1,8 @@
 // The members of the object that are numbers: the counts and the bounds.
-use bounds::Bounded;
-use graph::{Answer, Graph};
+use bounds::BothBounds;
+use graph::Graph;
 use say::json::member;
 use say::out;
-use second::Seconded;
 use units::Parts;
 
 pub(crate) fn counts(g: Graph) -> bool {
@@ -19,16 +18,15 @@ pub(crate) fn amount(before: &[u8], parts: u64) -> bool {
 }
 
 // NEW-B-2, or null where there is none.
-fn second_of(found: Seconded) -> bool {
-    let answer = found.answer;
-    match answer {
-        Answer::Accepted => amount(b",\n    \"second\": {\"parts\": ", found.parts.0),
-        Answer::Refused(_) => out::text(b",\n    \"second\": null"),
+fn second_of(second: Option<Parts>) -> bool {
+    match second {
+        Some(parts) => amount(b",\n    \"second\": {\"parts\": ", parts.0),
+        None => out::text(b",\n    \"second\": null"),
     }
 }
 
-pub(crate) fn bounds_of(b: Bounded, found: Seconded) -> bool {
+pub(crate) fn bounds_of(b: BothBounds, second: Option<Parts>) -> bool {
     let old = amount(b"\n  \"bounds\": {\n    \"old\": {\"parts\": ", b.old.0);
     let new = amount(b",\n    \"new\": {\"parts\": ", b.new.0);
-    old & new & second_of(found) & out::text(b"\n  },")
+    old & new & second_of(second) & out::text(b"\n  },")
 }

@@ -1,5 +1,5 @@
 // `plan json FILE`: what the sheet says, and the graph, as one JSON object for other tools (docs/JSON.md). As in `answers`, g is the graph of an accepted file, t
-// the bytes that gave it, with the names that they have, and the answer is the exit status, which no contract can say.
+// the bytes that gave it, with the names that they have.
 #![tactic(auto)]
 
 mod figures;
@@ -9,6 +9,7 @@ ghost use Rattle.graph.specs.Model.{AcceptedGraph};
 
 use board::Names;
 use graph::Graph;
+use input::Failure;
 use say::out;
 
 // The gains of all stages, the largest first.
@@ -31,13 +32,13 @@ fn path(t: &[u8], names: Names, g: Graph) -> bool
 fn bounds_of(g: Graph) -> bool
     requires { AcceptedGraph g }
 {
-    figures::counts(g) & figures::bounds_of(bounds::figures(g), second::of_graph(g))
+    figures::counts(g) & figures::bounds_of(bounds::figures(g), second::of_graph(g).ok())
 }
 
-pub fn answer(t: &[u8], names: Names, g: Graph) -> u8
+pub fn answer(t: &[u8], names: Names, g: Graph) -> Result<(), Failure>
     requires { AcceptedGraph g }
 {
     let sheet = bounds_of(g) & path(t, names, g) & gains(t, names, g);
     let board = lists::kinds(t, names, g) & lists::stages(t, names, g);
-    input::status(sheet & board & out::text(b"\n}\n"), input::ANSWER)
+    input::answer(sheet & board & out::text(b"\n}\n"))
 }

@@ -23,71 +23,54 @@ fn of_stage(t: &[u8], of: Names, i: usize, v: usize) -> bool {
     called(i, b"{\"stage\": ", v, names::of_stage(t, of, v))
 }
 
-fn index(v: u8) -> usize {
-    v as usize
-}
-
 fn on_path(t: &[u8], of: Names, i: usize, v: usize) -> bool {
     of_stage(t, of, i, v) & out::text(b"}")
 }
 
 pub(crate) fn path(t: &[u8], of: Names, path: &[u8]) -> bool {
     let mut written = out::text(b"\n  \"path\": [");
-    for i in 0..path.len() {
-        written = written & on_path(t, of, i, index(path[i]));
+    for (i, v) in path.iter().enumerate() {
+        written &= on_path(t, of, i, *v as usize);
     }
     written & out::text(b"\n  ],")
 }
 
-fn gain_of(gain: &[u64; 128], v: usize) -> u64 {
-    if v < 128 { gain[v] } else { 0 }
-}
-
 // A stage and what a rewrite of it would gain.
-fn gained(t: &[u8], of: Names, i: usize, v: usize, gain: u64) -> bool {
-    of_stage(t, of, i, v) & figures::amount(b", \"parts\": ", gain)
+fn gained(t: &[u8], of: Names, i: usize, v: usize, gain: &[u64; 128]) -> bool {
+    let parts = if v < 128 { gain[v] } else { 0 };
+    of_stage(t, of, i, v) & figures::amount(b", \"parts\": ", parts)
 }
 
 pub(crate) fn gains(t: &[u8], of: Names, list: &[u8], gain: &[u64; 128]) -> bool {
     let mut written = out::text(b"\n  \"gains\": [");
-    for i in 0..list.len() {
-        let v = index(list[i]);
-        written = written & gained(t, of, i, v, gain_of(gain, v));
+    for (i, v) in list.iter().enumerate() {
+        written &= gained(t, of, i, *v as usize, gain);
     }
     written & out::text(b"\n  ],")
 }
 
-fn kind(t: &[u8], of: Names, g: Graph, k: usize) -> bool {
-    let cores = if k < 10 { g.cores[k] as u64 } else { 0 };
+fn kind(t: &[u8], of: Names, k: usize, cores: u8) -> bool {
     let name = called(k, b"{\"type\": ", k, names::of_kind(t, of, k));
-    name & member(b", \"cores\": ", cores) & out::text(b"}")
+    name & member(b", \"cores\": ", cores as u64) & out::text(b"}")
 }
 
 pub(crate) fn kinds(t: &[u8], of: Names, g: Graph) -> bool {
     let mut written = out::text(b"\n  \"types\": [");
-    for k in 0..g.kinds {
-        written = written & kind(t, of, g, k);
+    for (k, cores) in g.cores.iter().enumerate().take(g.kinds) {
+        written &= kind(t, of, k, *cores);
     }
     written & out::text(b"\n  ],")
 }
 
-fn kind_of(g: Graph, v: usize) -> u64 {
-    if v < 128 { g.kind[v] as u64 } else { 0 }
-}
-
-fn wcet_of(g: Graph, v: usize) -> u64 {
-    if v < 128 { g.wcet[v] as u64 } else { 0 }
-}
-
-fn stage(t: &[u8], of: Names, g: Graph, v: usize) -> bool {
-    let kind = of_stage(t, of, v, v) & member(b", \"type\": ", kind_of(g, v));
-    kind & member(b", \"wcet\": ", wcet_of(g, v)) & out::text(b"}")
+fn stage(t: &[u8], of: Names, v: usize, kind: u8, wcet: u32) -> bool {
+    let kind = of_stage(t, of, v, v) & member(b", \"type\": ", kind as u64);
+    kind & member(b", \"wcet\": ", wcet as u64) & out::text(b"}")
 }
 
 pub(crate) fn stages(t: &[u8], of: Names, g: Graph) -> bool {
     let mut written = out::text(b"\n  \"stages\": [");
-    for v in 0..g.n {
-        written = written & stage(t, of, g, v);
+    for (v, (kind, wcet)) in g.kind.iter().zip(&g.wcet).enumerate().take(g.n) {
+        written &= stage(t, of, v, *kind, *wcet);
     }
     written & out::text(b"\n  ]")
 }

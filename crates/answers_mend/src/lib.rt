@@ -1,4 +1,4 @@
-// `plan mend FILE OUT`: a hand-edited file mended, and what was done, a line for each mend. The answer is the exit status, which rests on what the system took:
+// `plan mend FILE OUT`: a hand-edited file mended, and what was done, a line for each mend. There is no answer where the system took less than all of it:
 // no contract can say it.
 #![tactic(auto)]
 
@@ -6,7 +6,7 @@ mod lines;
 mod output;
 
 use graph::Refusal;
-use mends::Mended;
+use input::Failure;
 use std::rt::{Env, Files};
 
 // The arguments that name the file and where the mended one goes.
@@ -36,20 +36,18 @@ fn reason(rt: &impl Env, r: Refusal) -> bool {
 }
 
 // The mended file goes first: where it can't be written, nothing is said to have been done.
-fn kept(rt: &(impl Env + Files), file: &[u8], out: &[u8], list: &[u8]) -> u8 {
-    if !output::new(rt, OUT, out) {
-        return input::TROUBLE;
-    }
-    input::status(lines::all(file, out, list), input::ANSWER)
+fn kept(rt: &(impl Env + Files), file: &[u8], out: &[u8], list: &[u8]) -> Result<(), Failure> {
+    output::new(rt, OUT, out)?;
+    input::answer(lines::all(file, out, list))
 }
 
 // The mended file is no longer than the file, and each record has two mends at most.
-fn mended(rt: &(impl Env + Files), file: &[u8]) -> u8 {
+fn mended(rt: &(impl Env + Files), file: &[u8]) -> Result<(), Failure> {
     let mut out = [0u8; 9304];
     let mut list = [0u8; 18608];
     let got = mend::mend(file, &mut out, &mut list);
     match got {
-        Mended::Lengths(sizes) => {
+        Ok(sizes) => {
             let to = sizes.file;
             let listed = sizes.list;
             kept(
@@ -59,22 +57,19 @@ fn mended(rt: &(impl Env + Files), file: &[u8]) -> u8 {
                 texts::part(&list, 0, listed),
             )
         }
-        Mended::Refused(r) => {
+        Err(r) => {
             let first = say::out::refused(r);
-            input::status(first & reason(rt, r), input::NO)
+            Err(input::no(first & reason(rt, r)))
         }
     }
 }
 
 // Of a longer file only that it is longer matters.
-pub fn answer(rt: &(impl Env + Files + Input)) -> u8 {
+pub fn answer(rt: &(impl Env + Files + Input)) -> Result<(), Failure> {
     if input::is_standard(rt, OUT) {
-        return input::wrong(b"OUT is a file, and not standard output");
+        return Err(input::wrong(b"OUT is a file, and not standard output"));
     }
     let mut space = [0u8; 9304];
-    let got = input::read(rt, FILE, &mut space);
-    if !got.good {
-        return input::TROUBLE;
-    }
-    mended(rt, texts::part(&space, 0, got.n))
+    let n = input::read(rt, FILE, &mut space)?;
+    mended(rt, texts::part(&space, 0, n))
 }

@@ -1,27 +1,35 @@
 // `plan late FILE TIMES D`: whether the run at the times of a text ends by tick D, and how many ticks of it were played to see that. No is no answer that a
 // release script goes on with, so that its exit status is 1.
+use crate::run;
 use crate::run::{TIMES, Times};
-use crate::{run, stage_times};
 use board::Names;
-use graph::{Answer, Graph};
-use input::word;
+use graph::Graph;
+use input::{Failure, word};
 use std::rt::{Env, Files};
 
 // The argument that is the tick.
 const D: usize = 4;
 
-fn answer(rt: &impl Env, stages: usize, file: &[u8], said: &[u8], times: Times, d: u32) -> u8 {
-    let ticks = times.ticks;
-    let told = late::late(file, run::front(&ticks, times.n), d);
-    let answer = told.answer;
-    match answer {
-        Answer::Refused(r) => {
+fn answer(
+    rt: &impl Env,
+    stages: usize,
+    file: &[u8],
+    said: &[u8],
+    times: Times,
+    d: u32,
+) -> Result<(), Failure> {
+    match late::late(file, times.ticks(), d) {
+        Err(r) => {
             let first = say::out::refused(r);
-            input::status(first & run::reason(rt, said, times, stages, r), input::NO)
+            Err(input::no(first & run::reason(rt, said, times, stages, r)))
         }
-        Answer::Accepted => {
+        Ok(told) => {
             let written = say::run::late(told.yes, told.played.0);
-            input::status(written, if told.yes { input::ANSWER } else { input::NO })
+            if told.yes {
+                input::answer(written)
+            } else {
+                Err(input::no(written))
+            }
         }
     }
 }
@@ -35,39 +43,35 @@ fn with_words(
     file: &[u8],
     said: &[u8],
     tick: &[u8],
-) -> u8 {
-    let timed = stage_times::of(said, t, names, g);
-    let f = timed.fault;
-    if f.row != faults::FINE {
-        return input::status(reasons::fault::of_text(rt, TIMES, said, f), input::NO);
-    }
-    let row = word::fault(tick);
-    if row != faults::FINE {
-        let wrong = reasons::fault::said_argument(b"D", row, tick);
-        return input::status(wrong, input::NO);
-    }
-    let times = timed.times;
-    answer(rt, g.n, file, said, times, word::number(tick))
+) -> Result<(), Failure> {
+    let times = run::given(rt, said, t, names, g)?;
+    let d = match word::number(tick) {
+        Ok(d) => d,
+        Err(what) => return Err(input::no(reasons::fault::said_argument(b"D", what, tick))),
+    };
+    answer(rt, g.n, file, said, times, d)
 }
 
-pub fn timed(rt: &(impl Env + Files + Input), t: &[u8], names: Names, g: Graph, file: &[u8]) -> u8 {
+pub fn timed(
+    rt: &(impl Env + Files + Input),
+    t: &[u8],
+    names: Names,
+    g: Graph,
+    file: &[u8],
+) -> Result<(), Failure> {
     let mut space = [0u8; 65537];
-    let got = input::read(rt, TIMES, &mut space);
-    if !got.good {
-        return input::TROUBLE;
-    }
+    let n = input::read(rt, TIMES, &mut space)?;
     let mut tick = io::buffer();
-    let d = input::argument(rt, D, &mut tick);
-    if !d.good {
-        return input::wrong(b"D has at most 4096 bytes");
-    }
+    let Some(d) = input::argument(rt, D, &mut tick) else {
+        return Err(input::wrong(b"D has at most 4096 bytes"));
+    };
     with_words(
         rt,
         t,
         names,
         g,
         file,
-        texts::part(&space, 0, got.n),
-        texts::part(&tick, 0, d.n),
+        texts::part(&space, 0, n),
+        texts::part(&tick, 0, d),
     )
 }

@@ -1,8 +1,9 @@
 // `plan run FILE [TIMES]`: the finish, and each stage's finish instant.
 use crate::stage_times;
 use board::Names;
+use faults::Wrong;
 use graph::{Graph, Refusal};
-use schedule::Played;
+use input::Failure;
 use std::rt::{Env, Files};
 
 // The argument that names the times.
@@ -17,17 +18,19 @@ pub(crate) struct Times {
     pub end: [usize; 129],
 }
 
+impl Times {
+    pub(crate) fn ticks(&self) -> &[u32] {
+        &self.ticks[..self.n.min(129)]
+    }
+}
+
 // What the text of times has wrong where they are refused.
 pub(crate) fn reason(rt: &impl Env, said: &[u8], times: Times, stages: usize, r: Refusal) -> bool {
     if r.number != 14 {
         return reasons::fault::counted(rt, TIMES, times.n, stages);
     }
     let v = (r.place % 128) as usize;
-    reasons::fault::said(rt, TIMES, said, faults::TIME, times.start[v], times.end[v])
-}
-
-pub(crate) fn front(list: &[u32], n: usize) -> &[u32] {
-    if n <= list.len() { &list[..n] } else { list }
+    reasons::fault::said(rt, TIMES, said, Wrong::Time, times.start[v], times.end[v])
 }
 
 // The run of a file of so many stages, with times that the text `said` gave.
@@ -39,44 +42,59 @@ fn answer(
     file: &[u8],
     said: &[u8],
     times: Times,
-) -> u8 {
-    let ticks = times.ticks;
+) -> Result<(), Failure> {
     let mut list = [0u32; 128];
-    let played = schedule::run(file, front(&ticks, times.n), &mut list);
+    let played = schedule::run(file, times.ticks(), &mut list);
     match played {
-        Played::Finish(f) => {
-            let written = say::run::lines(t, names, f.0, front(&list, stages));
-            input::status(written, input::ANSWER)
-        }
-        Played::Refused(r) => {
+        Ok(f) => { input::answer(say::run::lines(t, names, f.0, &list[..stages.min(128)])) }
+        Err(r) => {
             let first = say::out::refused(r);
-            input::status(first & reason(rt, said, times, stages, r), input::NO)
+            Err(input::no(first & reason(rt, said, times, stages, r)))
         }
+    }
+}
+
+// The times of a text.
+pub(crate) fn given(
+    rt: &impl Env,
+    said: &[u8],
+    t: &[u8],
+    names: Names,
+    g: Graph,
+) -> Result<Times, Failure> {
+    match stage_times::of(said, t, names, g) {
+        Ok(times) => Ok(times),
+        Err(f) => Err(input::no(reasons::fault::of_text(rt, TIMES, said, f))),
     }
 }
 
 // The run at the times of a text.
-fn with_text(rt: &impl Env, t: &[u8], names: Names, g: Graph, file: &[u8], said: &[u8]) -> u8 {
-    let timed = stage_times::of(said, t, names, g);
-    let f = timed.fault;
-    if f.row != faults::FINE {
-        return input::status(reasons::fault::of_text(rt, TIMES, said, f), input::NO);
-    }
-    let times = timed.times;
+fn with_text(
+    rt: &impl Env,
+    t: &[u8],
+    names: Names,
+    g: Graph,
+    file: &[u8],
+    said: &[u8],
+) -> Result<(), Failure> {
+    let times = given(rt, said, t, names, g)?;
     answer(rt, t, names, g.n, file, said, times)
 }
 
 // The run at the times that argument 3 names.
-pub fn timed(rt: &(impl Env + Files + Input), t: &[u8], names: Names, g: Graph, file: &[u8]) -> u8 {
+pub fn timed(
+    rt: &(impl Env + Files + Input),
+    t: &[u8],
+    names: Names,
+    g: Graph,
+    file: &[u8],
+) -> Result<(), Failure> {
     let mut space = [0u8; 65537];
-    let got = input::read(rt, TIMES, &mut space);
-    if !got.good {
-        return input::TROUBLE;
-    }
-    with_text(rt, t, names, g, file, texts::part(&space, 0, got.n))
+    let n = input::read(rt, TIMES, &mut space)?;
+    with_text(rt, t, names, g, file, texts::part(&space, 0, n))
 }
 
 // The run at every stage's WCET.
-pub fn full(rt: &impl Env, t: &[u8], names: Names, g: Graph, file: &[u8]) -> u8 {
+pub fn full(rt: &impl Env, t: &[u8], names: Names, g: Graph, file: &[u8]) -> Result<(), Failure> {
     answer(rt, t, names, g.n, file, t, stage_times::full(g))
 }

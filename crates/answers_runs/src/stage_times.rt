@@ -1,23 +1,14 @@
 // The execution times of a run: a text of lines `NAME TICKS`, for a board text alone, or of numbers.
 use crate::run::Times;
 use board::Names;
-use faults::Fault;
+use faults::{Fault, Wrong};
 use graph::Graph;
-
-// The times, and the first fault.
-#[derive(Clone, Copy)]
-pub(crate) struct Timed {
-    pub fault: Fault,
-    pub times: Times,
-}
+use texts::Sought;
 
 // Every stage at its WCET, which no text says.
 pub(crate) fn full(g: Graph) -> Times {
-    let wcet = g.wcet;
     let mut ticks = [0u32; 129];
-    for v in 0..128 {
-        ticks[v] = wcet[v];
-    }
+    ticks[..128].copy_from_slice(&g.wcet);
     Times {
         n: g.n,
         ticks,
@@ -35,84 +26,59 @@ fn none() -> Times {
     }
 }
 
-fn fine(times: Times) -> Timed {
-    let f = Fault {
-        row: faults::FINE,
-        at: 0,
-    };
-    Timed { fault: f, times }
-}
-
-fn with(mut times: Times, v: usize, t: &[u8], at: usize) -> Times {
+// The times with one more, which stands at the place.
+fn with(mut times: Times, v: usize, t: &[u8], at: usize, ticks: u32) -> Times {
     if v < 129 {
-        times.ticks[v] = (texts::number(t, at) % 4294967296) as u32;
+        times.ticks[v] = ticks;
         times.start[v] = at;
-        times.end[v] = texts::until(t, at, texts::END);
+        times.end[v] = texts::until(t, at, Sought::End);
     }
     times
 }
 
 // The time of stage v, whose name stands at the place of the text. One that has a time ends somewhere.
-fn clocked(t: &[u8], v: usize, name: usize, times: Times) -> Timed {
-    let f = faults::of_number_alone(t, name, 4294967295);
-    if f.row != faults::FINE {
-        return Timed { fault: f, times };
-    }
+fn clocked(t: &[u8], v: usize, name: usize, times: Times) -> Result<Times, Fault> {
+    let ticks = faults::of_number_alone(t, name, 4294967295)?;
     if times.end[v % 128] != 0 {
-        let twice = Fault {
-            row: faults::TIME_TWICE,
+        return Err(Fault {
+            what: Wrong::TimeTwice,
             at: name,
-        };
-        return Timed {
-            fault: twice,
-            times,
-        };
+        });
     }
-    let more = with(times, v, t, texts::after(t, name));
-    Timed {
-        fault: f,
-        times: more,
-    }
+    Ok(with(times, v, t, texts::after(t, name), ticks))
 }
 
 // The line `NAME TICKS` that begins at the place; the names are those of the board text.
-fn line(t: &[u8], board: &[u8], names: Names, at: usize, times: Times) -> Timed {
-    let first = texts::until(t, at, texts::WORD);
+fn line(t: &[u8], board: &[u8], names: Names, at: usize, times: Times) -> Result<Times, Fault> {
+    let first = texts::until(t, at, Sought::Word);
     if !texts::is_word(t, first) {
-        return fine(times);
+        return Ok(times);
     }
-    let list = names.stage;
-    let v = texts::find(board, &list, names.stages, t, first);
-    if v >= names.stages {
-        let f = Fault {
-            row: faults::NO_STAGE,
+    match texts::find(board, &names.stage, names.stages, t, first) {
+        Some(v) => clocked(t, v, first, times),
+        None => Err(Fault {
+            what: Wrong::NoStage,
             at: first,
-        };
-        return Timed { fault: f, times };
+        }),
     }
-    clocked(t, v, first, times)
 }
 
 // By names. A stage that is not named takes its WCET.
-fn named(t: &[u8], board: &[u8], names: Names, g: Graph) -> Timed {
+fn named(t: &[u8], board: &[u8], names: Names, g: Graph) -> Result<Times, Fault> {
     let mut times = full(g);
     let mut at = 0;
     while at < t.len() {
-        let next = line(t, board, names, at, times);
-        if next.fault.row != faults::FINE {
-            return next;
-        }
-        times = next.times;
+        times = line(t, board, names, at, times)?;
         at = texts::next(t, at);
     }
-    fine(times)
+    Ok(times)
 }
 
 // One number more, at the place.
-fn with_number(times: Times, t: &[u8], at: usize) -> Times {
+fn with_number(times: Times, t: &[u8], at: usize, ticks: u32) -> Times {
     let n = times.n;
-    let mut next = with(times, n, t, at);
-    next.n = if n < 129 { n + 1 } else { n };
+    let mut next = with(times, n, t, at, ticks);
+    next.n = n.min(128) + 1;
     next
 }
 
@@ -120,7 +86,7 @@ fn with_number(times: Times, t: &[u8], at: usize) -> Times {
 fn start(t: &[u8], at: usize) -> usize {
     let mut i = at;
     while i < t.len() {
-        let w = texts::until(t, i, texts::WORD);
+        let w = texts::until(t, i, Sought::Word);
         if texts::is_word(t, w) {
             return w;
         }
@@ -130,36 +96,28 @@ fn start(t: &[u8], at: usize) -> usize {
 }
 
 // Numbers alone, as they stand.
-fn listed(t: &[u8]) -> Timed {
+fn listed(t: &[u8]) -> Result<Times, Fault> {
     let mut times = none();
     let mut at = start(t, 0);
-    for i in 0..t.len() {
+    for _ in 0..t.len() {
         if at >= t.len() {
-            return fine(times);
+            return Ok(times);
         }
-        let f = faults::of_number(t, at, 4294967295);
-        if f.row != faults::FINE {
-            return Timed { fault: f, times };
-        }
-        times = with_number(times, t, at);
-        at = start(t, texts::until(t, at, texts::END));
+        let ticks = faults::of_number(t, at, 4294967295)?;
+        times = with_number(times, t, at, ticks);
+        at = start(t, texts::until(t, at, Sought::End));
     }
-    fine(times)
+    Ok(times)
 }
 
 // Whether the text's first word names a stage.
 fn by_names(t: &[u8], board: &[u8], names: Names) -> bool {
-    let list = names.stage;
-    texts::find(board, &list, names.stages, t, start(t, 0)) < names.stages
+    texts::find(board, &names.stage, names.stages, t, start(t, 0)).is_some()
 }
 
 // The times that a text gives for the stages of a graph; the board text has the names.
-pub(crate) fn of(t: &[u8], board: &[u8], names: Names, g: Graph) -> Timed {
-    let f = faults::of_text(t);
-    if f.row != faults::FINE {
-        let times = none();
-        return Timed { fault: f, times };
-    }
+pub(crate) fn of(t: &[u8], board: &[u8], names: Names, g: Graph) -> Result<Times, Fault> {
+    faults::of_text(t)?;
     if by_names(t, board, names) {
         return named(t, board, names, g);
     }

@@ -1,84 +1,65 @@
 // A list of numbers of a byte, parted by commas, as an argument has it.
-ghost use Rattle.std.specs.Prelude.{◌≤◌};
-
+use faults::Wrong;
 use input::word;
+use texts::Sought;
 
-// So many numbers, and, where the row isn't fine, where the piece that is at fault starts and ends.
+// What is wrong with the piece of an argument from a place up to another.
 #[derive(Clone, Copy)]
-pub(crate) struct Numbers {
-    pub row: usize,
-    pub start: usize,
-    pub end: usize,
-    pub n: usize,
-    pub list: [u8; 2048],
+pub(crate) struct Piece {
+    what: Wrong,
+    start: usize,
+    end: usize,
+}
+
+impl Piece {
+    // It as it is said of an argument that `plan help` calls so.
+    pub(crate) fn said(self, called: &[u8], argument: &[u8]) -> bool {
+        let piece = texts::part(argument, self.start, self.end);
+        reasons::fault::said_argument(called, self.what, piece)
+    }
 }
 
 // Where the piece that begins at the place ends.
-fn until_comma(w: &[u8], at: usize) -> usize
-    ensures { at ≤ result }
-{
-    let mut i = at;
-    while i < w.len() {
-        if w[i] == b',' {
-            return i;
-        }
-        i += 1;
+fn until_comma(w: &[u8], at: usize) -> usize {
+    let rest = texts::part(w, at, w.len());
+    match rest.iter().position(|b| *b == b',') {
+        Some(n) => at.saturating_add(n),
+        None => w.len(),
     }
-    i
 }
 
-fn fault(piece: &[u8]) -> usize {
-    let row = word::fault(piece);
-    if row != faults::FINE {
-        return row;
-    }
-    if word::number(piece) > 255 {
-        return faults::LARGE;
-    }
-    faults::FINE
+fn number(piece: &[u8]) -> Result<u8, Wrong> {
+    u8::try_from(word::number(piece)?).map_err(|_| Wrong::Large)
 }
 
-// An argument has 4,096 bytes at most, and each number takes one and a comma.
-pub(crate) fn listed(w: &[u8]) -> Numbers {
-    let mut list = [0u8; 2048];
+// How many numbers it has, which are laid in the list. An argument has 4,096 bytes at most, and each number takes one and a comma.
+pub(crate) fn listed(w: &[u8], list: &mut [u8; 2048]) -> Result<usize, Piece> {
     let mut at = 0usize;
-    for i in 0..2048 {
+    for (i, place) in list.iter_mut().enumerate() {
         let end = until_comma(w, at);
-        let piece = texts::part(w, at, end);
-        let row = fault(piece);
-        if row != faults::FINE {
-            return Numbers {
-                row,
-                start: at,
-                end,
-                n: 0,
-                list,
-            };
+        match number(texts::part(w, at, end)) {
+            Ok(n) => *place = n,
+            Err(what) => {
+                return Err(Piece {
+                    what,
+                    start: at,
+                    end,
+                });
+            }
         }
-        list[i] = (word::number(piece) % 256) as u8;
         if end >= w.len() {
-            return Numbers {
-                row,
-                start: at,
-                end,
-                n: i + 1,
-                list,
-            };
+            return Ok(i + 1);
         }
         at = end + 1;
     }
-    Numbers {
-        row: faults::FINE,
-        start: 0,
-        end: 0,
-        n: 2048,
-        list,
-    }
+    Ok(2048)
 }
 
 // How many tasks a text has that begins with this count, entry and exit among them; 128 at the most. In a text outside the layout it doesn't matter.
 pub(crate) fn tasks(text: &[u8]) -> usize {
-    let first = texts::until(text, 0, texts::WORD);
-    let n = texts::number(text, first);
-    if n < 126 { (n + 2) as usize } else { 128 }
+    let first = texts::until(text, 0, Sought::Word);
+    match texts::number(text, first) {
+        Ok(n) if n < 126 => (n + 2) as usize,
+        _ => 128,
+    }
 }

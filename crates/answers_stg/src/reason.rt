@@ -14,7 +14,7 @@ fn line(rt: &impl Env, k: usize, r: Refusal) -> bool {
 fn task(rt: &impl Env, k: usize, types: usize, r: Refusal) -> bool {
     let place = r.place as u64;
     let types = types as u64;
-    let v = if place < types { 0 } else { place - types };
+    let v = place.saturating_sub(types);
     let first = out::argument(rt, k) & out::text(b": task") & out::field(v);
     first & out::text(b" has a time above 1000000, or a type that CORES has not\n")
 }

@@ -4,12 +4,13 @@
 
 ghost use Rattle.std.specs.Prelude.{◌≡◌, ◌<◌, length};
 ghost use Rattle.model.specs.Places.{table};
-ghost use Rattle.board.specs.Lists.{cores_at_of, kind_at, wcet_at_of};
+ghost use Rattle.board.specs.Lists.{as_number_of, cores_at_of, kind_at, wcet_at_of};
 ghost use Rattle.board.specs.Board.{nameless, with_kind_of, with_stage_of, kind_line_of, stage_line_of, line_of, lines_up_to, board_of};
 
-use faults::Fault;
+use faults::{Fault, Wrong};
+use texts::{NumberError, Sought};
 
-// So many types and stages, and where in the text each one's name starts and ends. A graph file has no names: 0 of both.
+// So many types and stages, and where in the text each one's name starts and ends. A graph file has no names: 0 of both. The places stand apart from the ends, since a name is looked up in a list of places alone (`which_name`).
 #[derive(Clone, Copy)]
 pub struct Names {
     pub kinds: usize,
@@ -18,13 +19,6 @@ pub struct Names {
     pub kind_end: [usize; 10],
     pub stage: [usize; 128],
     pub stage_end: [usize; 128],
-}
-
-// The names of types and stages, in the order in which they stand; and the first fault.
-#[derive(Clone, Copy)]
-pub struct Board {
-    pub fault: Fault,
-    pub names: Names,
 }
 
 // The names of a graph file, which has none.
@@ -42,6 +36,7 @@ pub fn nameless() -> Names
 }
 
 // The names with one type more, whose name stands from a place up to another.
+#[tactic(auto, unfolding(crate::specs::Board::with_kind_of))]
 fn with_kind(mut names: Names, at: usize, end: usize) -> Names
     requires { names.kinds < 10 }
     ensures { result ≡ with_kind_of names at end }
@@ -53,6 +48,7 @@ fn with_kind(mut names: Names, at: usize, end: usize) -> Names
     names
 }
 
+#[tactic(auto, unfolding(crate::specs::Board::with_stage_of))]
 fn with_stage(mut names: Names, at: usize, end: usize) -> Names
     requires { names.stages < 128 }
     ensures { result ≡ with_stage_of names at end }
@@ -65,72 +61,54 @@ fn with_stage(mut names: Names, at: usize, end: usize) -> Names
 }
 
 // A line `cores NAME NUMBER`, whose first word stands at the place.
-fn kind_line(t: &[u8], names: Names, at: usize) -> Board
+#[tactic(auto, unfolding(crate::specs::Board::kind_line_of))]
+fn kind_line(t: &[u8], names: Names, at: usize) -> Result<Names, Fault>
     ensures { result ≡ kind_line_of t.now names at }
 {
     let name = texts::after(t, at);
     if !texts::is_word(t, name) {
-        let f = Fault {
-            row: faults::MISSING,
+        return Err(Fault {
+            what: Wrong::Missing,
             at,
-        };
-        return Board { fault: f, names };
+        });
     }
     let kind = names.kind;
-    let f = faults::of_name(t, name, &kind, names.kinds, faults::KIND_TWICE);
-    if f.row != faults::FINE {
-        return Board { fault: f, names };
-    }
+    faults::of_name(t, name, &kind, names.kinds, Wrong::KindTwice)?;
     if names.kinds >= 10 {
-        let many = Fault {
-            row: faults::KIND_MANY,
+        return Err(Fault {
+            what: Wrong::KindMany,
             at: name,
-        };
-        return Board { fault: many, names };
+        });
     }
-    let more = with_kind(names, name, texts::until(t, name, texts::END));
-    let rest = faults::of_number_alone(t, name, 255);
-    Board {
-        fault: rest,
-        names: more,
-    }
+    faults::of_number_alone(t, name, 255)?;
+    Ok(with_kind(names, name, texts::until(t, name, Sought::End)))
 }
 
 // A line `NAME TYPE WCET [WAITS-FOR..]`, whose first word stands at the place.
-fn stage_line(t: &[u8], names: Names, at: usize) -> Board
+#[tactic(auto, unfolding(crate::specs::Board::stage_line_of))]
+fn stage_line(t: &[u8], names: Names, at: usize) -> Result<Names, Fault>
     ensures { result ≡ stage_line_of t.now names at }
 {
     let stage = names.stage;
-    let f = faults::of_name(t, at, &stage, names.stages, faults::STAGE_TWICE);
-    if f.row != faults::FINE {
-        return Board { fault: f, names };
-    }
+    faults::of_name(t, at, &stage, names.stages, Wrong::StageTwice)?;
     if names.stages >= 128 {
-        let many = Fault {
-            row: faults::STAGE_MANY,
+        return Err(Fault {
+            what: Wrong::StageMany,
             at,
-        };
-        return Board { fault: many, names };
+        });
     }
-    let more = with_stage(names, at, texts::until(t, at, texts::END));
-    let rest = faults::of_stage(t, at);
-    Board {
-        fault: rest,
-        names: more,
-    }
+    faults::of_stage(t, at)?;
+    Ok(with_stage(names, at, texts::until(t, at, Sought::End)))
 }
 
-// The line that begins at the place.
-fn line(t: &[u8], names: Names, at: usize) -> Board
+// The names with those of the line that begins at the place.
+#[tactic(auto, unfolding(crate::specs::Board::line_of))]
+fn line(t: &[u8], names: Names, at: usize) -> Result<Names, Fault>
     ensures { result ≡ line_of t.now names at }
 {
-    let first = texts::until(t, at, texts::WORD);
+    let first = texts::until(t, at, Sought::Word);
     if !texts::is_word(t, first) {
-        let f = Fault {
-            row: faults::FINE,
-            at: 0,
-        };
-        return Board { fault: f, names };
+        return Ok(names);
     }
     if texts::word_is(t, first, b"cores") {
         kind_line(t, names, first)
@@ -139,41 +117,37 @@ fn line(t: &[u8], names: Names, at: usize) -> Board
     }
 }
 
-// The lines up to the first that has a fault, or the text's end.
-fn lines(t: &[u8]) -> Board
+// The names of the lines, or the first fault.
+fn lines(t: &[u8]) -> Result<Names, Fault>
     ensures { result ≡ lines_up_to t.now (length t.now) }
 {
-    let none = nameless();
-    let f = Fault {
-        row: faults::FINE,
-        at: 0,
-    };
-    let mut b = Board {
-        fault: f,
-        names: none,
-    };
+    let mut names = nameless();
     let mut at = 0;
     while at < t.len() {
-        let names = b.names;
-        b = line(t, names, at);
-        if b.fault.row != faults::FINE {
-            return b;
-        }
+        names = line(t, names, at)?;
         at = texts::next(t, at);
     }
-    b
+    Ok(names)
 }
 
-// The board of a text, and the first thing wrong with it but for the types and stages that its stages name.
-pub fn read(t: &[u8]) -> Board
+// The names of the types and stages of a text, or the first thing wrong with it but for the types and stages that its stages name.
+#[tactic(auto, unfolding(crate::specs::Board::board_of))]
+pub fn read(t: &[u8]) -> Result<Names, Fault>
     ensures { result ≡ board_of t.now }
 {
-    let f = faults::of_text(t);
-    if f.row != faults::FINE {
-        let names = nameless();
-        return Board { fault: f, names };
-    }
+    faults::of_text(t)?;
     lines(t)
+}
+
+// A number of a text without a fault. What else is given for none, 1, and for one that is too large, 0, is asked for in no such text.
+fn as_number(said: Result<u32, NumberError>) -> u32
+    ensures { result ≡ as_number_of said }
+{
+    match said {
+        Ok(n) => n,
+        Err(NumberError::TooLarge) => 0,
+        Err(NumberError::NotDigits) => 1,
+    }
 }
 
 // How many cores type k has.
@@ -183,7 +157,7 @@ fn cores_at(t: &[u8], names: Names, k: usize) -> u8
 {
     let kind = names.kind;
     if k < names.kinds {
-        return (texts::number(t, texts::after(t, kind[k])) % 256) as u8;
+        return (as_number(texts::number(t, texts::after(t, kind[k]))) % 256) as u8;
     }
     0
 }
@@ -193,8 +167,8 @@ pub fn cores(t: &[u8], names: Names) -> [u8; 10]
     ensures { result ≡ table (cores_at_of t.now names) 10 }
 {
     let mut list = [0u8; 10];
-    for k in 0..10 {
-        list[k] = cores_at(t, names, k);
+    for (k, n) in list.iter_mut().enumerate() {
+        *n = cores_at(t, names, k);
     }
     list
 }
@@ -208,7 +182,8 @@ fn kind_at(t: &[u8], names: Names, v: usize) -> u8
     let stage = names.stage;
     if v < names.stages {
         let at = texts::after(t, stage[v]);
-        return (texts::find(t, &kind, names.kinds, t, at) % 256) as u8;
+        let found = texts::find(t, &kind, names.kinds, t, at);
+        return (found.unwrap_or(names.kinds) % 256) as u8;
     }
     0
 }
@@ -218,8 +193,8 @@ pub fn kinds(t: &[u8], names: Names) -> [u8; 128]
     ensures { result ≡ table (kind_at t.now names) 128 }
 {
     let mut list = [0u8; 128];
-    for v in 0..128 {
-        list[v] = kind_at(t, names, v);
+    for (v, k) in list.iter_mut().enumerate() {
+        *k = kind_at(t, names, v);
     }
     list
 }
@@ -232,7 +207,7 @@ fn wcet_at(t: &[u8], names: Names, v: usize) -> u32
     let stage = names.stage;
     if v < names.stages {
         let kind = texts::after(t, stage[v]);
-        return (texts::number(t, texts::after(t, kind)) % 4294967296) as u32;
+        return as_number(texts::number(t, texts::after(t, kind)));
     }
     0
 }
@@ -242,8 +217,8 @@ pub fn wcets(t: &[u8], names: Names) -> [u32; 128]
     ensures { result ≡ table (wcet_at_of t.now names) 128 }
 {
     let mut list = [0u32; 128];
-    for v in 0..128 {
-        list[v] = wcet_at(t, names, v);
+    for (v, ticks) in list.iter_mut().enumerate() {
+        *ticks = wcet_at(t, names, v);
     }
     list
 }

@@ -9,6 +9,7 @@
 --                       places, else the path; whatever is not the path stays as it was
 --   of_pathed r          the answer in document 01's numbers: its value is how many vertices the path has
 --   PathOf s old r new  the answer of `path`, and the lent list: the reader's refusal, or that
+use Rattle.std.specs.Prelude.{Ok, Err}
 use Rattle.std.specs.Prelude.{◌≡◌, List, ◌++◌, ℕ, ◌/◌, ◌≤◌, ◌<◌, length, drop}
 use Rattle.model.specs.Graph.{Graph}
 use Rattle.model.specs.Bounds.{PARTS, OldB, NewB1, ThePath}
@@ -17,11 +18,11 @@ use Rattle.graph.specs.Judge.{read_of}
 use Rattle.graph.specs.Said.{Said, said_no}
 use Rattle.graph.specs.declared.Graph as reader
 use Rattle.graph.specs.declared.Refusal.{Refusal}
-use Rattle.graph.specs.declared.Answer.{Answer}
-use Rattle.graph.specs.declared.Answer.TheVariants.{Accepted, Refused}
-use Rattle.bounds.specs.declared.Bounded.{Bounded}
-use Rattle.bounds.specs.declared.Pathed.{Pathed}
-use Rattle.bounds.specs.declared.Pathed.TheVariants.{Vertices, Refused as NoPath}
+use Rattle.graph.specs.Answer.{Answer}
+use Rattle.graph.specs.Answer.{Accepted, Refused}
+use Rattle.bounds.specs.Bounded.{Bounded}
+use Rattle.bounds.specs.Pathed.{Pathed}
+use Rattle.bounds.specs.Pathed.{Vertices, Refused as NoPath}
 
 pub record Figures (G : Graph) (r : Bounded) : Type 0 where
   pub old : OldB G r.old.0
@@ -34,8 +35,8 @@ pub record Nothing (r : Bounded) : Type 0 where
   pub ticks : r.ticks.0 ≡ 0
 
 abbrev pub Beside : Answer → Graph → Bounded → Type 0
-Beside Accepted G r = Figures G r
-Beside (Refused x) G r = Nothing r
+Beside (Ok _) G r = Figures G r
+Beside (Err x) G r = Nothing r
 
 pub record BoundsOf (s : List ℕ) (r : Bounded) : Type 0 where
   pub answer : r.answer ≡ (read_of s).answer
@@ -49,8 +50,8 @@ pub data PathIn (g : reader.Graph) (old : List ℕ) : Pathed → List ℕ → Ty
   found : {p : List ℕ} → g.n ≤ length old → ThePath (as_model g) p → PathIn g old (Vertices (length p)) (p ++ drop (length p) old)
 
 abbrev pub of_pathed : Pathed → Said
-of_pathed (Vertices n) = record { number = 0; place = 0; value = n }
-of_pathed (NoPath r) = said_no r
+of_pathed (Ok n) = record { number = 0; place = 0; value = n }
+of_pathed (Err r) = said_no r
 
 pub data PathOf (s old : List ℕ) : Pathed → List ℕ → Type 0 where
   refused : {x : Refusal} → (read_of s).answer ≡ Refused x → PathOf s old (NoPath x) old

@@ -1,1 +1,3 @@
+pub mod Bounded
+pub mod Pathed
 pub mod Answers

@@ -28,7 +28,7 @@ fn one(rt: HostRuntime, k: usize) {
             // Of a longer file than 9,296 bytes only that it is longer matters.
             let mut buf = [0u8; 9304];
             let n = io::read_full(file.as_raw_fd(), &mut buf);
-            show::sheet(&buf[..n]);
+            let _ = show::sheet(&buf[..n]);
         }
     }
 }

@@ -1,7 +1,6 @@
 // The two lines at the top: what the picture is of, with its finish and the bounds, or what a log is refused for.
-use crate::{Told, stretch};
-use board::Names;
-use chart_page::{called, element};
+use crate::{Drawing, Origin, Told, stretch};
+use chart_page::element;
 use graph::Refusal;
 use say::out;
 
@@ -13,11 +12,11 @@ fn second() -> bool {
     element::text(b"<text", 20, 48)
 }
 
-fn title(what: u8) -> bool {
-    match what {
-        0 => out::text(b"A run, each stage at its WCET"),
-        1 => out::text(b"A run at the times given"),
-        _ => out::text(b"A recorded frame"),
+fn title(origin: Origin) -> bool {
+    match origin {
+        Origin::Run => out::text(b"A run, each stage at its WCET"),
+        Origin::Timed => out::text(b"A run at the times given"),
+        Origin::Frame => out::text(b"A recorded frame"),
     }
 }
 
@@ -25,45 +24,45 @@ fn bounds_of(told: Told) -> bool {
     let new = out::text(b"any work-conserving schedule, any times up to the WCETs: finished by")
         & out::field(told.new)
         & out::text(b" (NEW-B-1)");
-    if told.has_second {
-        return new & out::text(b", by") & out::field(told.second) & out::text(b" (NEW-B-2)");
-    }
-    new
-}
-
-fn accepted(log: &[u8], told: Told) -> bool {
-    let finish = stretch::finish(log);
-    let line = first() & title(told.what) & out::text(b": finished at") & out::field(finish);
-    line & element::text_end() & second() & bounds_of(told) & element::text_end()
-}
-
-fn started(t: &[u8], of: Names, log: &[u8], k: usize) -> bool {
-    let stage = called::stage(t, of, stretch::stage(log, k));
-    stage & out::text(b" starts at") & out::field(stretch::instant(log, k))
-}
-
-// Who breaks the rule, and when.
-fn subject(t: &[u8], of: Names, log: &[u8], r: Refusal) -> bool {
-    let place = r.place as usize;
-    let number = r.number;
-    match number {
-        21 => called::stage(t, of, place),
-        22 => out::text(b"at") & out::field(r.place as u64),
-        _ => started(t, of, log, place),
+    match told.second {
+        Some(second) => new & out::text(b", by") & out::field(second) & out::text(b" (NEW-B-2)"),
+        None => new,
     }
 }
 
-fn refused(t: &[u8], of: Names, log: &[u8], r: Refusal) -> bool {
-    let line = first() & out::text(b"refused") & out::field(r.number as u64);
-    let place = out::text(b" at") & out::field(r.place as u64) & element::text_end();
-    let rule = second() & subject(t, of, log, r) & reasons::log::rule(r.number);
-    line & place & rule & element::text_end()
-}
-
-pub(crate) fn lines(t: &[u8], of: Names, log: &[u8], told: Told) -> bool {
-    let refusal = told.refusal;
-    if refusal.number != 0 {
-        return refused(t, of, log, refusal);
+impl Drawing<'_> {
+    fn accepted(&self) -> bool {
+        let line = first() & title(self.told.origin) & out::text(b": finished at");
+        let finish = out::field(self.finish) & element::text_end();
+        line & finish & second() & bounds_of(self.told) & element::text_end()
     }
-    accepted(log, told)
+
+    fn started(&self, k: usize) -> bool {
+        let log = self.log.log;
+        let stage = self.titles.stage(stretch::stage(log, k)).whole();
+        stage & out::text(b" starts at") & out::field(stretch::instant(log, k))
+    }
+
+    // Who breaks the rule, and when.
+    fn subject(&self, r: Refusal) -> bool {
+        match r.number {
+            21 => self.titles.stage(r.place as usize).whole(),
+            22 => out::text(b"at") & out::field(r.place as u64),
+            _ => self.started(r.place as usize),
+        }
+    }
+
+    fn refused(&self, r: Refusal) -> bool {
+        let line = first() & out::text(b"refused") & out::field(r.number as u64);
+        let place = out::text(b" at") & out::field(r.place as u64) & element::text_end();
+        let rule = second() & self.subject(r) & reasons::log::rule(r.number);
+        line & place & rule & element::text_end()
+    }
+
+    pub(crate) fn heading(&self) -> bool {
+        match self.told.refusal {
+            Some(r) => self.refused(r),
+            None => self.accepted(),
+        }
+    }
 }

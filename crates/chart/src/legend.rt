@@ -27,23 +27,22 @@ fn bounds_of(told: Told, y: u64) -> bool
 {
     let finish = stroke(b"<line class=\"finish\"", 540, y, b"finish");
     let new = stroke(b"<line class=\"new\"", 640, y, b"NEW-B-1, whole ticks");
-    if told.has_second {
-        return finish & new & stroke(b"<line class=\"second\"", 820, y, b"NEW-B-2, whole ticks");
+    if told.second.is_none() {
+        return finish & new;
     }
-    finish & new
+    finish & new & stroke(b"<line class=\"second\"", 820, y, b"NEW-B-2, whole ticks")
 }
 
 fn said(told: Told, y: u64) -> bool
     requires { y < 65536 }
 {
-    let number = told.refusal.number;
-    if number == 22 {
-        return stroke(b"<line class=\"new\"", 540, y, b"where it is refused");
+    match told.refusal {
+        None => bounds_of(told, y),
+        Some(r) => match r.number {
+            22 => stroke(b"<line class=\"new\"", 540, y, b"where it is refused"),
+            _ => colour(b"<rect class=\"wrong\"", 540, y, b"what is refused"),
+        },
     }
-    if number != 0 {
-        return colour(b"<rect class=\"wrong\"", 540, y, b"what is refused");
-    }
-    bounds_of(told, y)
 }
 
 pub(crate) fn all(told: Told, y: u64) -> bool

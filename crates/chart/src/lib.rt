@@ -15,125 +15,90 @@ ghost use Rattle.graph.specs.Model.{AcceptedGraph};
 ghost use Rattle.recorded.specs.Log.{InForm};
 
 use board::Names;
-use chart_page::{axis, page};
+use chart_page::axis::Axis;
+use chart_page::called::Titles;
+use chart_page::page;
+use core_rows::Rows;
 use graph::{Graph, Refusal};
+use stretch::Log;
 use vset::Vset;
 
 // What a log is of: a run with each stage at its WCET, one at times that were given, or a frame that a board recorded.
-pub const RUN: u8 = 0;
+#[derive(Clone, Copy, Debug, PartialEq, Eq)]
+pub enum Origin {
+    Run,
+    Timed,
+    Frame,
+}
 
-pub const TIMED: u8 = 1;
-
-pub const FRAME: u8 = 2;
-
-// What is said of a log: what it is of; what it is refused for, with number 0 where it isn't; and the bounds in whole ticks.
+// What is said of a log: what it is of; what it is refused for, if it is; and the bounds in whole ticks.
 #[derive(Clone, Copy)]
 pub struct Told {
-    pub what: u8,
-    pub refusal: Refusal,
+    pub origin: Origin,
+    pub refusal: Option<Refusal>,
     pub new: u64,
-    pub second: u64,
-    pub has_second: bool,
+    pub second: Option<u64>,
 }
 
-// What the bars are drawn by, but for the log: the refusal; so many ticks from left to right; the start of the stretch that is shown without a core, if any, and
-// the type that has a row more for it; the stages of the path; and how long each stage ran in all.
+// What is drawn: the log and its finish, what is said of it, the names, the axis and the rows; the start of the stretch that is shown without a core, if any; the
+// stages of the path; and how long each stage ran in all.
 #[derive(Clone, Copy)]
-pub(crate) struct Look {
-    pub refusal: Refusal,
-    pub span: u64,
-    pub bare: usize,
-    pub more: usize,
+pub(crate) struct Drawing<'a> {
+    pub titles: Titles<'a>,
+    pub log: Log<'a>,
+    pub finish: u64,
+    pub told: Told,
+    pub axis: Axis,
+    pub rows: Rows<'a>,
+    pub bare: Option<usize>,
     pub path: Vset,
-    pub totals: [u32; 128],
+    pub totals: &'a [u32; 128],
 }
 
+// The path's stages, whose numbers are below 128.
 fn members(path: &[u8]) -> Vset {
     let mut set = vset::none();
-    for i in 0..path.len() {
-        set = vset::with(set, index(path[i]));
+    for v in path {
+        set = vset::with(set, (*v % 128) as usize);
     }
     set
 }
 
-// A stage's number, which is below 128.
-fn index(v: u8) -> usize
-    ensures { result < 128 }
-{
-    (v % 128) as usize
-}
-
-fn larger(a: u64, b: u64) -> u64 {
-    if a < b { b } else { a }
-}
-
-// The ticks that have to be seen. A log that is refused is no schedule that the bounds are about.
-fn need(finish: u64, told: Told) -> u64 {
-    if told.refusal.number != 0 {
-        return finish;
-    }
-    let first = larger(finish, told.new);
-    if told.has_second {
-        larger(first, told.second)
-    } else {
-        first
+impl Told {
+    // The ticks that have to be seen. A log that is refused is no schedule that the bounds are about.
+    fn need(self, finish: u64) -> u64 {
+        if self.refusal.is_some() {
+            return finish;
+        }
+        finish.max(self.new).max(self.second.unwrap_or(0))
     }
 }
 
-// What stands on the page around the bars, from the top to the picture that has them.
-fn above(t: &[u8], of: Names, g: Graph, log: &[u8], look: Look, told: Told, height: u64) -> bool
-    requires { (0 < look.span) × (look.span < 8589934600) × (height < 60000) }
-{
-    let first = page::begin(height + 168) & heading::lines(t, of, log, told);
-    let more = look.more;
-    let under = core_rows::all(t, of, g, more) & axis::grid(look.span, height + 104);
-    first & under & axis::begin(look.span, height)
-}
+impl Drawing<'_> {
+    // What stands on the page around the bars, from the top to the picture that has them.
+    fn above(&self, height: u64) -> bool
+        requires { height < 60000 }
+    {
+        let first = page::begin(height + 168) & self.heading();
+        let under = self.rows.all(self.titles) & self.axis.grid(height + 104);
+        first & under & self.axis.begin(height)
+    }
 
-fn below(look: Look, told: Told, finish: u64, mark: u64, height: u64) -> bool
-    requires { (0 < look.span) × (height < 60000) }
-{
-    lines::labels(look.span, told, finish, mark) & legend::all(told, height + 140) & page::end()
-}
+    fn below(&self, height: u64) -> bool
+        requires { height < 60000 }
+    {
+        self.labels() & legend::all(self.told, height + 140) & page::end()
+    }
 
-// The bars and the lines; and on them, so that no bar hides a name, the names.
-fn inside(
-    t: &[u8],
-    of: Names,
-    g: Graph,
-    log: &[u8],
-    on: &[u8],
-    look: Look,
-    told: Told,
-    finish: u64,
-    mark: u64,
-    height: u64,
-) -> bool
-    requires { 0 < look.span }
-{
-    let bars = bars::all(t, of, g, log, on, look, bars::DRAWN);
-    let lines = lines::all(told, finish, mark, height) & page::end();
-    bars & lines & bars::all(t, of, g, log, on, look, bars::NAMED)
-}
+    // The bars and the lines; and on them, so that no bar hides a name, the names.
+    fn inside(&self) -> bool {
+        self.bars() & self.lines() & page::end() & self.names()
+    }
 
-fn laid_out(
-    t: &[u8],
-    of: Names,
-    g: Graph,
-    log: &[u8],
-    on: &[u8],
-    look: Look,
-    told: Told,
-    finish: u64,
-) -> bool
-    requires { (0 < look.span) × (look.span < 8589934600) }
-{
-    let more = look.more;
-    let height = core_rows::height(g, more);
-    let mark = lines::mark(log, told);
-    let first = above(t, of, g, log, look, told, height);
-    let middle = inside(t, of, g, log, on, look, told, finish, mark, height);
-    first & middle & below(look, told, finish, mark, height)
+    fn laid_out(&self) -> bool {
+        let height = self.rows.height();
+        self.above(height) & self.inside() & self.below(height)
+    }
 }
 
 // The path's stages stand in the list.
@@ -145,18 +110,29 @@ pub fn picture(t: &[u8], of: Names, g: Graph, log: &[u8], path: &[u8], told: Tol
     let mut on = [0u8; 8192];
     lanes::name(log, g.n, &kind, &cores, &mut on);
     let spent = formed::add_up(log, g.n);
-    let totals = spent.totals;
     let finish = stretch::finish(log);
-    let refusal = told.refusal;
-    let path = members(path);
-    let bare = bare::start(g, log, &on, refusal);
-    let look = Look {
-        refusal,
-        span: axis::span(need(finish, told)),
-        bare,
-        more: core_rows::more(g, log, bare),
-        path,
-        totals,
+    let log = Log {
+        g: &g,
+        log,
+        on: &on,
     };
-    laid_out(t, of, g, log, &on, look, told, finish)
+    let bare = told.refusal.and_then(|r| log.bare(r));
+    let drawing = Drawing {
+        titles: Titles {
+            text: t,
+            names: &of,
+        },
+        log,
+        finish,
+        told,
+        axis: Axis::with(told.need(finish)),
+        rows: Rows {
+            g: &g,
+            more: bare.map(|k| log.kind(k)),
+        },
+        bare,
+        path: members(path),
+        totals: &spent.totals,
+    };
+    drawing.laid_out()
 }

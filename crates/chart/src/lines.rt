@@ -1,57 +1,81 @@
 // The lines at an instant, the finish, the bounds, or where a log is refused, and their labels above the rows: each line rises to its own label.
-ghost use Rattle.std.specs.Prelude.{◌<◌};
-
-use crate::{Told, stretch};
+use crate::{Drawing, stretch};
 use chart_page::{axis, element};
+use graph::Refusal;
 use say::out;
 
-// The instant at which a log is refused: that of the record, or the one named. Where a stage ran too long there is none.
-pub(crate) fn mark(log: &[u8], told: Told) -> u64 {
-    if told.refusal.number == 22 {
-        return told.refusal.place as u64;
-    }
-    stretch::instant(log, told.refusal.place as usize)
+// A line: how it begins, so far above the rows; its label, so far down the page; and its instant.
+#[derive(Clone, Copy)]
+struct Line<'a> {
+    before: &'a [u8],
+    up: u64,
+    words: &'a [u8],
+    y: u64,
+    instant: u64,
 }
 
-pub(crate) fn all(told: Told, finish: u64, mark: u64, height: u64) -> bool {
-    let number = told.refusal.number;
-    if number == 21 {
-        return true;
+// The instant at which a log is refused: that of the record, or the one named.
+fn refused_at(log: &[u8], r: Refusal) -> u64 {
+    if r.number == 22 {
+        return r.place as u64;
     }
-    if number != 0 {
-        return element::risen(b"<polyline class=\"new\"", mark, 14, height);
-    }
-    let first = element::risen(b"<polyline class=\"finish\"", finish, 14, height);
-    let second = if told.has_second {
-        element::risen(b"<polyline class=\"second\"", told.second, 28, height)
-    } else {
-        true
-    };
-    first & second & element::risen(b"<polyline class=\"new\"", told.new, 42, height)
+    stretch::instant(log, r.place as usize)
 }
 
-fn label(words: &[u8], span: u64, instant: u64, y: u64) -> bool
-    requires { 0 < span }
-{
-    let begun = element::text(b"<text class=\"end\"", axis::place(instant, span) - 5, y);
-    begun & out::text(words) & out::field(instant) & element::text_end()
-}
+impl Drawing<'_> {
+    // Hands on each line. Where a stage ran too long there is none.
+    fn each_line<F: Fn(Line) -> bool>(&self, draw: F) -> bool
+        requires { F.IsAlwaysCallable draw }
+    {
+        if let Some(r) = self.told.refusal {
+            return (r.number == 21)
+                || draw(Line {
+                    before: b"<polyline class=\"new\"",
+                    up: 14,
+                    words: b"refused at",
+                    y: axis::TOP - 6,
+                    instant: refused_at(self.log.log, r),
+                });
+        }
+        let finish = draw(Line {
+            before: b"<polyline class=\"finish\"",
+            up: 14,
+            words: b"finish",
+            y: axis::TOP - 6,
+            instant: self.finish,
+        });
+        let second = match self.told.second {
+            None => true,
+            Some(instant) => draw(Line {
+                before: b"<polyline class=\"second\"",
+                up: 28,
+                words: b"NEW-B-2",
+                y: axis::TOP - 20,
+                instant,
+            }),
+        };
+        let new = draw(Line {
+            before: b"<polyline class=\"new\"",
+            up: 42,
+            words: b"NEW-B-1",
+            y: axis::TOP - 34,
+            instant: self.told.new,
+        });
+        finish & second & new
+    }
 
-pub(crate) fn labels(span: u64, told: Told, finish: u64, mark: u64) -> bool
-    requires { 0 < span }
-{
-    let number = told.refusal.number;
-    if number == 21 {
-        return true;
+    pub(crate) fn lines(&self) -> bool {
+        let height = self.rows.height();
+        self.each_line(|line| element::risen(line.before, line.instant, line.up, height))
     }
-    if number != 0 {
-        return label(b"refused at", span, mark, axis::TOP - 6);
+
+    fn label(&self, line: Line) -> bool {
+        let x = self.axis.place(line.instant) - 5;
+        let begun = element::text(b"<text class=\"end\"", x, line.y);
+        begun & out::text(line.words) & out::field(line.instant) & element::text_end()
     }
-    let first = label(b"finish", span, finish, axis::TOP - 6);
-    let second = if told.has_second {
-        label(b"NEW-B-2", span, told.second, axis::TOP - 20)
-    } else {
-        true
-    };
-    first & second & label(b"NEW-B-1", span, told.new, axis::TOP - 34)
+
+    pub(crate) fn labels(&self) -> bool {
+        self.each_line(|line| self.label(line))
+    }
 }

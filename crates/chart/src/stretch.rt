@@ -1,5 +1,5 @@
-// The stretches of a log: from a start to the stop after it one stage runs, on one core.
-ghost use Rattle.std.specs.Prelude.{◌≤◌, ◌<◌};
+// The records of a log, and its stretches: from a start to the stop after it one stage runs, on one core.
+ghost use Rattle.std.specs.Prelude.{◌<◌};
 
 use graph::Graph;
 
@@ -12,6 +12,14 @@ pub(crate) struct Stretch {
     pub core: u64,
     pub from: u64,
     pub to: u64,
+}
+
+// A log in form of a graph, and the core of each of its records.
+#[derive(Clone, Copy)]
+pub(crate) struct Log<'a> {
+    pub g: &'a Graph,
+    pub log: &'a [u8],
+    pub on: &'a [u8],
 }
 
 // The stage of record k.
@@ -34,41 +42,37 @@ pub(crate) fn instant(log: &[u8], k: usize) -> u64 {
 
 // The instant of the last record; 0 where there is none.
 pub(crate) fn finish(log: &[u8]) -> u64 {
-    let m = log.len() / 8;
-    if m == 0 {
-        return 0;
+    match (log.len() / 8).checked_sub(1) {
+        Some(last) => instant(log, last),
+        None => 0,
     }
-    instant(log, m - 1)
 }
 
 // The type of stage v.
-pub(crate) fn kind(g: Graph, v: usize) -> usize {
+pub(crate) fn kind(g: &Graph, v: usize) -> usize {
     if v < 128 { g.kind[v] as usize } else { 0 }
 }
 
-pub(crate) fn wide(b: u8) -> u64
-    ensures { result ≤ 255 }
-{
-    b as u64
-}
+impl Log<'_> {
+    // The type of the stage of record k.
+    pub(crate) fn kind(self, k: usize) -> usize {
+        kind(self.g, stage(self.log, k))
+    }
 
-// No record: a log has 8,192 at the most.
-pub(crate) const NONE: usize = 8192;
+    // The core of record k.
+    pub(crate) fn core(self, k: usize) -> u64 {
+        self.on.get(k).map_or(0, |core| *core as u64)
+    }
 
-// The core of record k, of a list with the core of each.
-pub(crate) fn core(on: &[u8], k: usize) -> u64 {
-    if k < on.len() { wide(on[k]) } else { 0 }
-}
-
-// The stretch from one record to another.
-pub(crate) fn between(g: Graph, log: &[u8], on: &[u8], start: usize, stop: usize) -> Stretch {
-    let v = stage(log, stop);
-    Stretch {
-        start,
-        stage: v,
-        kind: kind(g, v),
-        core: core(on, stop),
-        from: instant(log, start),
-        to: instant(log, stop),
+    // The stretch from one record to another.
+    pub(crate) fn between(self, start: usize, stop: usize) -> Stretch {
+        Stretch {
+            start,
+            stage: stage(self.log, stop),
+            kind: self.kind(stop),
+            core: self.core(stop),
+            from: instant(self.log, start),
+            to: instant(self.log, stop),
+        }
     }
 }

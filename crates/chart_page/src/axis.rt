@@ -27,61 +27,61 @@ fn step(need: u64) -> u64
     if need <= 20 * m { 2 * m } else { 5 * m }
 }
 
-// As many ticks as are needed, and on to the next line of the grid. No instant has more than 32 bits.
-pub fn span(need: u64) -> u64
-    ensures { (0 < result) × (result < 8589934600) }
-{
-    let least = need % 4294967296;
-    let step = step(least);
-    let mut ticks = step;
-    while ticks < least {
-        ticks += step;
-    }
-    ticks
-}
-
-// Where an instant stands on the page.
-pub fn place(instant: u64, span: u64) -> u64
-    requires { 0 < span }
-    ensures { (180 ≤ result) × (result < 4294967476) }
-{
-    LEFT + instant % 4294967296 * WIDE / span % 4294967296
-}
-
 fn numbered(x: u64, y: u64, instant: u64) -> bool {
     let begun = element::text(b"<text class=\"mid\"", x, y);
     begun & out::number(instant) & element::text_end()
 }
 
-// A line of the grid, and its instant below.
-fn upright(instant: u64, span: u64, bottom: u64) -> bool
-    requires { (0 < span) × (bottom < 65536) }
-{
-    let x = place(instant, span);
-    let line = element::line(b"<line class=\"grid\"", x, TOP, x, bottom + 4);
-    line & numbered(x, bottom + 18, instant)
+// So many ticks from left to right: one at least, and no more than instants of 32 bits need.
+#[derive(Clone, Copy)]
+pub struct Axis {
+    span: u64,
+    ghost spans: { (0 < span) × (span < 8589934600) },
 }
 
-// The grid of a picture whose rows end at the bottom.
-pub fn grid(span: u64, bottom: u64) -> bool
-    requires { (0 < span) × (span < 8589934600) × (bottom < 65536) }
-{
-    let step = step(span);
-    let mut written = true;
-    let mut instant = 0u64;
-    while instant <= span {
-        written = written & upright(instant, span, bottom);
-        instant += step;
+impl Axis {
+    // As many ticks as are needed, and on to the next line of the grid. No instant has more than 32 bits.
+    pub fn with(need: u64) -> Self {
+        let least = need % 4294967296;
+        Axis {
+            span: least.max(1).next_multiple_of(step(least)),
+        }
     }
-    written & element::words(b"<text class=\"end\"", 140, bottom + 18, b"ticks")
-}
 
-fn view(span: u64, height: u64) -> bool {
-    out::text(b" viewBox=\"0 0 ") & out::number(span) & attribute(b" ", height)
-}
+    // Where an instant stands on the page.
+    pub fn place(self, instant: u64) -> u64
+        ensures { (180 ≤ result) × (result < 4294967476) }
+    {
+        LEFT + instant % 4294967296 * WIDE / self.span % 4294967296
+    }
 
-// The picture within the page begins: ticks from left to right, and rows of so much height.
-pub fn begin(span: u64, height: u64) -> bool {
-    let place = element::rect(b"<svg", LEFT, TOP, WIDE, height) & view(span, height);
-    place & out::text(b" preserveAspectRatio=\"none\" overflow=\"visible\">\n")
+    // A line of the grid, and its instant below.
+    fn upright(self, instant: u64, bottom: u64) -> bool
+        requires { bottom < 65536 }
+    {
+        let x = self.place(instant);
+        let line = element::line(b"<line class=\"grid\"", x, TOP, x, bottom + 4);
+        line & numbered(x, bottom + 18, instant)
+    }
+
+    // The grid of a picture whose rows end at the bottom.
+    pub fn grid(self, bottom: u64) -> bool
+        requires { bottom < 65536 }
+    {
+        let mut written = true;
+        for instant in (0..=self.span).step_by(step(self.span) as usize) {
+            written &= self.upright(instant, bottom);
+        }
+        written & element::words(b"<text class=\"end\"", 140, bottom + 18, b"ticks")
+    }
+
+    fn view(self, height: u64) -> bool {
+        out::text(b" viewBox=\"0 0 ") & out::number(self.span) & attribute(b" ", height)
+    }
+
+    // The picture within the page begins: ticks from left to right, and rows of so much height.
+    pub fn begin(self, height: u64) -> bool {
+        let place = element::rect(b"<svg", LEFT, TOP, WIDE, height) & self.view(height);
+        place & out::text(b" preserveAspectRatio=\"none\" overflow=\"visible\">\n")
+    }
 }

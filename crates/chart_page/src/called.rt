@@ -1,65 +1,66 @@
 // What a stage or a type is called in a picture: by its name, or by a letter and its number where it has none.
 use board::Names;
 use quoted::xml;
-use say::{names, out};
+use say::names;
 
-fn numbered(letter: &[u8], i: usize) -> bool {
-    out::text(letter) & out::number(i as u64)
+#[derive(Clone, Copy)]
+pub struct Called<'a> {
+    name: &'a [u8],
+    letter: u8,
+    number: usize,
 }
 
-pub fn stage(t: &[u8], of: Names, v: usize) -> bool {
-    let name = names::of_stage(t, of, v);
-    if name.len() > 0 {
-        return xml::text(name);
-    }
-    numbered(b"s", v)
+// A text, and where the names stand in it.
+#[derive(Clone, Copy)]
+pub struct Titles<'a> {
+    pub text: &'a [u8],
+    pub names: &'a Names,
 }
 
-pub fn kind(t: &[u8], of: Names, k: usize) -> bool {
-    let name = names::of_kind(t, of, k);
-    if name.len() > 0 {
-        return xml::text(name);
+impl<'a> Titles<'a> {
+    pub fn stage(self, v: usize) -> Called<'a> {
+        Called {
+            name: names::of_stage(self.text, *self.names, v),
+            letter: b's',
+            number: v,
+        }
     }
-    numbered(b"t", k)
+
+    pub fn kind(self, k: usize) -> Called<'a> {
+        Called {
+            name: names::of_kind(self.text, *self.names, k),
+            letter: b't',
+            number: k,
+        }
+    }
 }
 
-// The last digit of a number.
-fn digit(n: usize) -> u8 {
-    b'0' + (n % 10) as u8
-}
+impl Called<'_> {
+    // Hands the bytes of it on.
+    fn told<F: FnOnce(&[u8]) -> bool>(self, to: F) -> bool
+        requires { F.IsAlwaysCallable to }
+    {
+        if !self.name.is_empty() {
+            return to(self.name);
+        }
+        let mut digits = [0u8; 20];
+        let n = io::decimal(self.number as u64, &mut digits);
+        let mut label = [self.letter; 21];
+        label[1..=n].copy_from_slice(&digits[..n]);
+        to(&label[..=n])
+    }
 
-// As much as has room in so many letters of one that has no name. Its number is below 1,000.
-fn numbered_cut(letter: u8, i: usize, room: usize) -> bool {
-    if i < 10 {
-        return xml::cut(&[letter, digit(i)], room);
+    pub fn whole(self) -> bool {
+        self.told(xml::text)
     }
-    if i < 100 {
-        return xml::cut(&[letter, digit(i / 10), digit(i)], room);
-    }
-    xml::cut(&[letter, digit(i / 100), digit(i / 10), digit(i)], room)
-}
 
-pub fn stage_cut(t: &[u8], of: Names, v: usize, room: usize) -> bool {
-    let name = names::of_stage(t, of, v);
-    if name.len() > 0 {
-        return xml::cut(name, room);
+    // As much of it as has room in so many letters.
+    pub fn cut(self, room: usize) -> bool {
+        self.told(|name| xml::cut(name, room))
     }
-    numbered_cut(b's', v, room)
-}
 
-pub fn kind_cut(t: &[u8], of: Names, k: usize, room: usize) -> bool {
-    let name = names::of_kind(t, of, k);
-    if name.len() > 0 {
-        return xml::cut(name, room);
+    // Whether any of it has room.
+    pub fn fits(self, room: usize) -> bool {
+        self.told(|name| xml::fits(name, room))
     }
-    numbered_cut(b't', k, room)
-}
-
-// Whether any of it has room.
-pub fn stage_fits(t: &[u8], of: Names, v: usize, room: usize) -> bool {
-    let name = names::of_stage(t, of, v);
-    if name.len() > 0 {
-        return xml::fits(name, room);
-    }
-    room > 0
 }

@@ -9,7 +9,7 @@ ghost use Rattle.choice.specs.Choice.{set_at_of, OfKinds, Joined, go_on, starts,
 
 use vset::Vset;
 
-// The set of kind k, which stands in two of the words.
+// The set of kind k, which stands in two of the words. No table of sets: `tick`, `leaps` and `frames` lend the words.
 pub fn set_at(words: &[u64; 20], k: usize) -> Vset
     requires { k < 10 }
     ensures { result ≡ set_at_of words.now k }
@@ -39,10 +39,8 @@ pub fn of_kinds(kind: &[u8; 128], n: usize) -> [u64; 20]
     ensures { OfKinds result kind.now n }
 {
     let mut words = [0u64; 20];
-    let mut v = 0usize;
-    while v < n {
+    for v in 0..n {
         join(&mut words, kind[v], v);
-        v += 1;
     }
     words
 }
@@ -69,10 +67,8 @@ pub fn chosen(kinds: usize, cores: &[u8; 10], words: &[u64; 20], able: Vset, ran
     let stay = vset::both(able, ran);
     let free = vset::minus(able, ran);
     let mut got = stay;
-    let mut k = 0usize;
-    while k < kinds {
+    for k in 0..kinds {
         got = vset::either(got, started(stay, free, set_at(words, k), cores[k]));
-        k += 1;
     }
     got
 }
@@ -90,10 +86,8 @@ pub fn fair(kinds: usize, cores: &[u8; 10], words: &[u64; 20], ran: Vset) -> boo
     ensures { result ≡ fair_by kinds cores.now words.now (is_in ran) }
 {
     let mut ok = true;
-    let mut k = 0usize;
-    while k < kinds {
+    for k in 0..kinds {
         ok = ok & few_marked(ran, set_at(words, k), cores[k]);
-        k += 1;
     }
     ok
 }

@@ -1,5 +1,6 @@
 -- FROM THE CALL IN C TO THE SCHEDULE ON THE BOARD. The entries for C and Rust give what the entries give, in document 01's numbers; so the
 -- three demands hold of what C sees.
+use Rattle.std.specs.Prelude.{Ok, Err}
 use mathlib.Core.Path.{◌≡◌, refl, sym, ap, ◌∙◌}
 use mathlib.Core.List.{List}
 use Prim.Native.Nat.{ℕ, ◌*◌, ◌≤◌, ◌<◌}
@@ -11,25 +12,25 @@ use Rattle.model.specs.Placing.{Placing, counted, NoneIdle}
 use Rattle.graph.specs.Judge.{read_of}
 use Rattle.graph.specs.Said.{of_answer}
 use Rattle.graph.specs.declared.Refusal.{Refusal}
-use Rattle.graph.specs.declared.Taken.{Taken}
-use Rattle.graph.specs.declared.Answer.{Answer}
-use Rattle.graph.specs.declared.Answer.TheVariants.{Accepted, Refused}
+use Rattle.graph.specs.Answer.{Taken}
+use Rattle.graph.specs.Answer.{Answer}
+use Rattle.graph.specs.Answer.{Accepted, Refused}
 use Rattle.units.specs.declared.Ticks.{Ticks}
 use Rattle.writer.specs.Lists.{Lists}
 use Rattle.writer.specs.Write.{wrote_of, room_after}
-use Rattle.writer.specs.declared.Wrote.{Wrote}
-use Rattle.writer.specs.declared.Wrote.TheVariants.{Bytes as Wrote-bytes, Refused as NotWritten}
+use Rattle.writer.specs.Wrote.{Wrote}
+use Rattle.writer.specs.Wrote.{Bytes as Wrote-bytes, Refused as NotWritten}
 use Rattle.bounds.specs.Answers.{BoundsOf, PathOf, refused, accepted, narrow, found}
-use Rattle.bounds.specs.declared.Bounded.{Bounded}
-use Rattle.bounds.specs.declared.Pathed.{Pathed}
+use Rattle.bounds.specs.Bounded.{Bounded}
+use Rattle.bounds.specs.Pathed.{Pathed}
 use Rattle.bounds.proofs.Unique.{bounds_unique, path-of_unique}
 use Rattle.tick.specs.declared.Run.{Run}
-use Rattle.tick.specs.declared.Report.{Report}
+use Rattle.tick.specs.Report.{Report}
 use Rattle.tick.specs.declared.Ticked.{Ticked}
 use Rattle.schedule.specs.Whole.{play_of, finishes_of, of_played}
-use Rattle.schedule.specs.declared.Started.{Started}
-use Rattle.schedule.specs.declared.Played.{Played}
-use Rattle.schedule.specs.declared.Played.TheVariants.{Finish as Finished, Refused as NoRun}
+use Rattle.schedule.specs.Start.{Started}
+use Rattle.schedule.specs.Played.{Played}
+use Rattle.schedule.specs.Played.{Finish as Finished, Refused as NoRun}
 use Rattle.codes.specs.Coded.{coded_graph_of, coded_wrote_of, coded_bounds_of, coded_path_of, BoundsCoded, PathCoded}
 use Rattle.codes.specs.CodedRun.{coded_start_of, coded_report_of, coded_tick_of, coded_play_of}
 use Rattle.codes.specs.declared.PlannerGraph.{PlannerGraph}
@@ -87,8 +88,8 @@ planner_run-is q h = let a = given.planner_run-given q in let b = given.run-give
 -- ---- what number 0 tells
 
 accepted-at-zero : (a : Answer) → ((x : Refusal) → a ≡ Refused x → 0 < x.number) → (of_answer a).number ≡ 0 → a ≡ Accepted
-accepted-at-zero Accepted h z = refl
-accepted-at-zero (Refused r) h z = absurd (omega (arith, h r refl))
+accepted-at-zero (Ok _) h z = refl
+accepted-at-zero (Err r) h z = absurd (omega (arith, h r refl))
 
 record Ended (p : Played) : Type 0 where
   pub at : Ticks
@@ -96,8 +97,8 @@ record Ended (p : Played) : Type 0 where
   pub value : (of_played p).value ≡ at.0
 
 ended-at-zero : (p : Played) → ((x : Refusal) → p ≡ NoRun x → 0 < x.number) → (of_played p).number ≡ 0 → Ended p
-ended-at-zero (Finished t) h z = record { at = t; is = refl; value = refl }
-ended-at-zero (NoRun r) h z = absurd (omega (arith, h r refl))
+ended-at-zero (Ok t) h z = record { at = t; is = refl; value = refl }
+ended-at-zero (Err r) h z = absurd (omega (arith, h r refl))
 
 -- ---- demand 3, from what planner_bounds gives with number 0
 

@@ -17,7 +17,7 @@ use Rattle.graph.proofs.Accepted as reader
 use Rattle.units.specs.declared.Ticks.{Ticks}
 use Rattle.recorded.specs.Recorded.{schedule_of}
 use Rattle.recorded.specs.Judge.{Conforms}
-use Rattle.replay.specs.declared.Replayed.TheVariants.{Finish as Finishes}
+use Rattle.replay.specs.Replayed.{Finish as Finishes}
 use Rattle.replay.proofs.Accepting.{accepted}
 use Rattle.lanes.specs.Lanes.{lanes_of, Named, placing_of}
 use Rattle.lanes.specs.Passing.{listed}

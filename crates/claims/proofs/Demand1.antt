@@ -20,22 +20,22 @@ use Rattle.graph.specs.Judge.{judge_from, read_of}
 use Rattle.graph.specs.Said.{of_answer}
 use Rattle.graph.specs.declared.Refusal.{Refusal}
 use Rattle.graph.specs.declared.Graph.{Graph}
-use Rattle.graph.specs.declared.Answer.{Answer}
-use Rattle.graph.specs.declared.Taken.{Taken}
-use Rattle.graph.specs.declared.Answer.TheVariants.{Accepted, Refused}
+use Rattle.graph.specs.Answer.{Answer}
+use Rattle.graph.specs.Answer.{Taken}
+use Rattle.graph.specs.Answer.{Accepted, Refused}
 use Rattle.graph.proofs.Accepted as reader
 use Rattle.writer.specs.Lists.{Lists}
 use Rattle.writer.specs.Write.{of_wrote}
-use Rattle.writer.specs.declared.Wrote.{Wrote}
-use Rattle.writer.specs.declared.Wrote.TheVariants.{Refused as NotWritten}
+use Rattle.writer.specs.Wrote.{Wrote}
+use Rattle.writer.specs.Wrote.{Refused as NotWritten}
 use Rattle.bounds.specs.Answers.{Nothing, BoundsOf, PathIn, narrow, found, PathOf, refused, accepted, of_pathed}
-use Rattle.bounds.specs.declared.Bounded.{Bounded}
-use Rattle.bounds.specs.declared.Pathed.{Pathed}
-use Rattle.bounds.specs.declared.Pathed.TheVariants.{Vertices, Refused as NoPath}
+use Rattle.bounds.specs.Bounded.{Bounded}
+use Rattle.bounds.specs.Pathed.{Pathed}
+use Rattle.bounds.specs.Pathed.{Vertices, Refused as NoPath}
 use Rattle.tick.specs.declared.Run.{Run}
 use Rattle.tick.specs.declared.Ticked.{Ticked}
-use Rattle.tick.specs.declared.Report.{Report}
-use Rattle.tick.specs.declared.Report.TheVariants.{Moved, Done, Refused as NoTick}
+use Rattle.tick.specs.Report.{Report}
+use Rattle.tick.specs.Report.{Moved, Done, Refused as NoTick}
 use Rattle.tick.specs.Run.{over, ticked_of, of_report}
 use Rattle.tick.specs.Suits.{suits, Suits}
 use Rattle.tick.proofs.Suiting.{suits-sound, suits-complete}
@@ -43,9 +43,9 @@ use Rattle.times.specs.Times.{judge_times}
 use Rattle.schedule.specs.Start.{no_run, refused_start_of, start_beside, started_on, start_after, start_of}
 use Rattle.schedule.specs.Tick.{tick_on_of, tick_after, tick_of}
 use Rattle.schedule.specs.Whole.{play_in, play_on_of, play_of, finishes_of, of_played}
-use Rattle.schedule.specs.declared.Started.{Started}
-use Rattle.schedule.specs.declared.Played.{Played}
-use Rattle.schedule.specs.declared.Played.TheVariants.{Refused as NoRun}
+use Rattle.schedule.specs.Start.{Started}
+use Rattle.schedule.specs.Played.{Played}
+use Rattle.schedule.specs.Played.{Refused as NoRun}
 use Rattle.claims.specs.Claims.{Bytes, IsAccepted, drawn_in, at_0, NoneFrom, Closed, Answered, Sound, WriteAnswered}
 use Rattle.claims.specs.Entries.{ReadGives, WriteGives, BoundsGives, PathGives, StartGives, TickGives, TickInPlaceGives, RunGives}
 use Rattle.claims.proofs.Entries.{read-given, write-given, bounds-given, path-given, start-given, tick-given, tick_in_place-given, run-given}

@@ -9,25 +9,25 @@ use mathlib.Core.List.{List, ◌++◌}
 use Prim.Native.Nat.{ℕ, suc, ◌≤◌, ◌<◌}
 use lib.ListN.{length, take, drop}
 use Rattle.graph.specs.Judge.{read_of}
-use Rattle.graph.specs.declared.Answer.TheVariants.{Accepted}
-use Rattle.graph.specs.declared.Taken.{Taken}
+use Rattle.graph.specs.Answer.{Accepted}
+use Rattle.graph.specs.Answer.{Taken}
 use Rattle.units.specs.declared.Ticks.{Ticks}
 use Rattle.writer.specs.Lists.{Lists, lists_in, graph_from}
-use Rattle.writer.specs.declared.Wrote.{Wrote}
-use Rattle.writer.specs.declared.Wrote.TheVariants.{Bytes as Wrote-bytes}
+use Rattle.writer.specs.Wrote.{Wrote}
+use Rattle.writer.specs.Wrote.{Bytes as Wrote-bytes}
 use Rattle.writer.proofs.RoundTrip.{read-written, written_read}
 use Rattle.bounds.specs.Answers.{Figures, found, PathOf, accepted}
-use Rattle.bounds.specs.declared.Bounded.{Bounded}
-use Rattle.bounds.specs.declared.Pathed.TheVariants.{Vertices}
+use Rattle.bounds.specs.Bounded.{Bounded}
+use Rattle.bounds.specs.Pathed.{Vertices}
 use Rattle.tick.specs.declared.Run.{Run}
-use Rattle.tick.specs.declared.Report.{Report}
+use Rattle.tick.specs.Report.{Report}
 use Rattle.tick.specs.declared.Ticked.{Ticked}
-use Rattle.tick.specs.declared.Report.TheVariants.{Moved, Done}
+use Rattle.tick.specs.Report.{Moved, Done}
 use Rattle.times.specs.Times.{times_of, judge_times}
 use Rattle.leaps.specs.Finishes.{finish_of}
-use Rattle.schedule.specs.declared.Started.{Started}
-use Rattle.schedule.specs.declared.Played.{Played}
-use Rattle.schedule.specs.declared.Played.TheVariants.{Finish as Finished}
+use Rattle.schedule.specs.Start.{Started}
+use Rattle.schedule.specs.Played.{Played}
+use Rattle.schedule.specs.Played.{Finish as Finished}
 use Rattle.schedule.proofs.Answers.{run_returns}
 use Rattle.claims.specs.Claims.{Bytes, IsAccepted, graph_in, run_at, PathLent, RunLent}
 use Rattle.claims.specs.Entries.{ReadGives, WriteGives, BoundsGives, PathGives, StartGives, TickGives, TickInPlaceGives, RunGives}

@@ -11,11 +11,11 @@ use Rattle.model.specs.Placing.{Placing, counted, NoneIdle, GivenCores}
 use Rattle.model.proofs.Cores.{given-cores}
 use Rattle.graph.specs.Model.{AcceptedGraph}
 use Rattle.graph.specs.Judge.{read_of}
-use Rattle.graph.specs.declared.Answer.TheVariants.{Accepted}
+use Rattle.graph.specs.Answer.{Accepted}
 use Rattle.graph.proofs.Accepted as reader
 use Rattle.units.specs.declared.Ticks.{Ticks}
-use Rattle.bounds.specs.declared.Bounded.{Bounded}
-use Rattle.schedule.specs.declared.Played.TheVariants.{Finish as Finished}
+use Rattle.bounds.specs.Bounded.{Bounded}
+use Rattle.schedule.specs.Played.{Finish as Finished}
 use Rattle.claims.specs.Claims.{Bytes, IsAccepted, graph_in}
 use Rattle.claims.specs.Entries.{BoundsGives, RunGives}
 use Rattle.claims.proofs.Entries.{bounds-given, run-given}

@@ -10,11 +10,11 @@ use Rattle.model.proofs.Compare.{new-le-old}
 use Rattle.model.proofs.Demand3 as model
 use Rattle.graph.specs.Model.{as_model, AcceptedGraph}
 use Rattle.graph.specs.Judge.{read_of}
-use Rattle.graph.specs.declared.Answer.{Answer}
-use Rattle.graph.specs.declared.Answer.TheVariants.{Accepted}
+use Rattle.graph.specs.Answer.{Answer}
+use Rattle.graph.specs.Answer.{Accepted}
 use Rattle.graph.proofs.Accepted as reader
 use Rattle.bounds.specs.Answers.{Figures, Beside, BoundsOf}
-use Rattle.bounds.specs.declared.Bounded.{Bounded}
+use Rattle.bounds.specs.Bounded.{Bounded}
 use Rattle.times.specs.Times.{times_of, judge_times, Fitting}
 use Rattle.leaps.specs.Finishes.{finish_of}
 use Rattle.leaps.proofs.Finishes as finishes

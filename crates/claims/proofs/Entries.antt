@@ -6,42 +6,42 @@ use Prim.Native.Nat.{ℕ}
 use lib.ListN.{length, drop}
 use Rattle.graph.specs.File.{records}
 use Rattle.graph.specs.Judge.{read_of}
-use Rattle.graph.specs.declared.Answer.{Answer}
+use Rattle.graph.specs.Answer.{Answer}
 use Rattle.graph.specs.declared.Graph.{Graph}
-use Rattle.graph.specs.declared.Taken.{Taken}
+use Rattle.graph.specs.Answer.{Taken}
 use Rattle.reader.specs.Laid.{RowsInto, KinInto}
 use Rattle.writer.specs.Lists.{Lists}
 use Rattle.writer.specs.Write.{wrote_of, room_after}
-use Rattle.writer.specs.declared.Wrote.{Wrote}
+use Rattle.writer.specs.Wrote.{Wrote}
 use Rattle.bounds.specs.Answers.{BoundsOf, PathOf}
-use Rattle.bounds.specs.declared.Bounded.{Bounded}
-use Rattle.bounds.specs.declared.Pathed.{Pathed}
+use Rattle.bounds.specs.Bounded.{Bounded}
+use Rattle.bounds.specs.Pathed.{Pathed}
 use Rattle.second.specs.Answers.{SecondOf}
-use Rattle.second.specs.declared.Seconded.{Seconded}
+use Rattle.second.specs.Seconded.{Seconded}
 use Rattle.gains.specs.Answers.{GainsOf, AlteredOf}
-use Rattle.gains.specs.declared.Gained.{Gained}
+use Rattle.gains.specs.Gained.{Gained}
 use Rattle.tick.specs.declared.Run.{Run}
-use Rattle.tick.specs.declared.Report.{Report}
+use Rattle.tick.specs.Report.{Report}
 use Rattle.tick.specs.declared.Ticked.{Ticked}
 use Rattle.schedule.specs.Start.{start_of}
 use Rattle.schedule.specs.Tick.{tick_of}
 use Rattle.schedule.specs.Whole.{play_of, finishes_of}
-use Rattle.schedule.specs.declared.Started.{Started}
-use Rattle.schedule.specs.declared.Played.{Played}
+use Rattle.schedule.specs.Start.{Started}
+use Rattle.schedule.specs.Played.{Played}
 use Rattle.codes.specs.Coded.{coded_graph_of, coded_wrote_of, coded_mend_of, BoundsCoded, SecondCoded, EnoughCoded, PathCoded, GainsCoded, AlteredCoded}
 use Rattle.late.specs.Answers.{LateOf}
-use Rattle.late.specs.declared.Lateness.{Lateness}
+use Rattle.late.specs.Lateness.{Lateness}
 use Rattle.enough.specs.Answers.{EnoughOf}
-use Rattle.enough.specs.declared.Fewest.{Fewest}
+use Rattle.enough.specs.Fewest.{Fewest}
 use Rattle.boards.specs.Points.{point_of}
 use Rattle.boards.specs.declared.Point.{Point}
 use Rattle.lanes.specs.Lanes.{lanes_of}
 use Rattle.lanes.specs.Passing.{listed}
 use Rattle.replay.specs.Answers.{replay_of, times_after_of}
-use Rattle.replay.specs.declared.Replayed.{Replayed}
+use Rattle.replay.specs.Replayed.{Replayed}
 use Rattle.logs.specs.Answers.{logged_of, log_room}
 use Rattle.mends.specs.Answers.{mend_of, file_after, list_after_of}
-use Rattle.mends.specs.declared.Mended.{Mended}
+use Rattle.mends.specs.Answers.{Mended}
 use Rattle.stg_text.specs.Answers.{read_stg_of, read_room, write_stg_of, write_room}
 use Rattle.codes.specs.CodedRun.{coded_start_of, coded_report_of, coded_tick_of, coded_play_of, coded_replay_of, LateCoded}
 use Rattle.codes.specs.declared.PlannerGraph.{PlannerGraph}

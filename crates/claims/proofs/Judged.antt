@@ -1,4 +1,5 @@
 -- The answers of the reader and the writer, as demand 1 says them.
+use Rattle.std.specs.Prelude.{Ok, Err}
 use mathlib.Core.Path.{◌≡◌, refl, ap}
 use mathlib.Core.Logic.{◌⊎◌, inl, inr, ◌↔◌}
 use mathlib.Core.List.{List, ◌++◌}
@@ -17,13 +18,13 @@ use Rattle.graph.specs.Model.{AcceptedGraph}
 use Rattle.graph.specs.Rules.{holds, per_record_of, places, rule11}
 use Rattle.graph.specs.Judge.{judge_from, read_of, Rightly}
 use Rattle.graph.specs.declared.Refusal.{Refusal}
-use Rattle.graph.specs.declared.Answer.{Answer}
-use Rattle.graph.specs.declared.Answer.TheVariants.{Accepted, Refused}
+use Rattle.graph.specs.Answer.{Answer}
+use Rattle.graph.specs.Answer.{Accepted, Refused}
 use Rattle.graph.proofs.Judging.{none-holds, rightly, accepts, refuses}
 use Rattle.graph.proofs.Accepted as accepted
 use Rattle.writer.specs.Lists.{Lists}
 use Rattle.writer.specs.Write.{file_of, wrote_of, room_after}
-use Rattle.writer.specs.declared.Wrote.TheVariants.{Bytes as Wrote-bytes, Refused as NotWritten}
+use Rattle.writer.specs.Wrote.{Bytes as Wrote-bytes, Refused as NotWritten}
 use Rattle.claims.specs.Claims.{Bytes, drawn_in, at_0, NoneFrom, Closed, Answered, taken, refused, Sound}
 use Rattle.claims.specs.Claims as claims
 
@@ -34,8 +35,8 @@ unfolding read_of
 read-answered s = go (judge_from 1 s) refl
   where
     go : (a : Answer) → judge_from 1 s ≡ a → Answered s (read_of s)
-    go Accepted e = taken e (λ num k f l d. none-holds 1 s e num f l k d) (rw e refl)
-    go (Refused r) e = refused e (rightly 1 s r e) (rw e refl)
+    go (Ok _) e = taken e (λ num k f l d. none-holds 1 s e num f l k d) (rw e refl)
+    go (Err r) e = refused e (rightly 1 s r e) (rw e refl)
 
 -- a number that is said of the whole file is given, at place 0, exactly where its row holds and no lower number applies
 pub whole-judged : (s : List ℕ) (num : ℕ) → 1 ≤ num → num < 12 → per_record_of num ≡ false → (judge_from 1 s ≡ Refused (at_0 num)) ↔ (NoneFrom 1 num s × (holds s num 0 ≡ true))
@@ -103,12 +104,12 @@ module _ (g : Lists) (old : List ℕ) where
       go (no x) a e l =
           let w : wrote_of g (length old) ≡ NotWritten (at_0 13) = unfold wrote_of in rw (ne_eqb (length g.kinds) (length g.wcets) x) refl in
           rw (left_alone (at_0 13) w, w) (claims.unlike x)
-      go (yes q) (Refused r) e l =
+      go (yes q) (Err r) e l =
           let w : wrote_of g (length old) ≡ NotWritten r = unfold wrote_of in rw (eq-eqb (length g.kinds) (length g.wcets) q, e) refl in
           rw (left_alone r w, w) (claims.refused q (rightly 4 (file_of g) r e))
-      go (yes q) Accepted e (inl l) =
+      go (yes q) (Ok _) e (inl l) =
           let w : wrote_of g (length old) ≡ Wrote-bytes (length (file_of g)) = unfold wrote_of in rw (eq-eqb (length g.kinds) (length g.wcets) q, e, le-ltb (length old) (length (file_of g)) l) refl in
           rw (filled (length (file_of g)) w, w) (claims.wrote q (λ num k f b d. none-holds 4 (file_of g) e num f b k d) l)
-      go (yes q) Accepted e (inr l) =
+      go (yes q) (Ok _) e (inr l) =
           let w : wrote_of g (length old) ≡ NotWritten (at_0 15) = unfold wrote_of in rw (eq-eqb (length g.kinds) (length g.wcets) q, e, lt-ltb (length old) (length (file_of g)) l) refl in
           rw (left_alone (at_0 15) w, w) (claims.narrow q (λ num k f b d. none-holds 4 (file_of g) e num f b k d) l)

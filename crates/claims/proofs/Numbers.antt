@@ -1,4 +1,5 @@
 -- No refusal has number 0, so that number 0 is given exactly where nothing is refused; and none has number 12.
+use Rattle.std.specs.Prelude.{Ok, Err}
 use mathlib.Core.Path.{◌≡◌, refl, sym, ap, ◌∙◌}
 use mathlib.Core.Logic.{◌↔◌}
 use mathlib.Core.List.{List}
@@ -13,23 +14,24 @@ use Rattle.graph.specs.Judge.{read_of, Rightly}
 use Rattle.graph.specs.Said.{of_answer}
 use Rattle.graph.specs.declared.Refusal.{Refusal}
 use Rattle.graph.specs.declared.Graph.{Graph}
-use Rattle.graph.specs.declared.Answer.{Answer}
-use Rattle.graph.specs.declared.Answer.TheVariants.{Accepted, Refused}
+use Rattle.graph.specs.Answer.{Answer}
+use Rattle.graph.specs.Answer.{Accepted, Refused}
 use Rattle.graph.proofs.Accepted.{refused_rightly}
 use Rattle.writer.specs.Lists.{Lists}
 use Rattle.writer.specs.Write.{of_wrote}
-use Rattle.writer.specs.declared.Wrote.{Wrote}
-use Rattle.writer.specs.declared.Wrote.TheVariants.{Bytes as Wrote-bytes, Refused as NotWritten}
+use Rattle.writer.specs.Wrote.{Wrote}
+use Rattle.writer.specs.Wrote.{Bytes as Wrote-bytes, Refused as NotWritten}
 use Rattle.bounds.specs.Answers.{of_pathed, PathIn, narrow, found, PathOf, refused, accepted}
-use Rattle.bounds.specs.declared.Pathed.{Pathed}
-use Rattle.bounds.specs.declared.Pathed.TheVariants.{Vertices, Refused as NoPath}
+use Rattle.bounds.specs.Pathed.{Pathed}
+use Rattle.bounds.specs.Pathed.{Vertices, Refused as NoPath}
 use Rattle.gains.specs.Answers as gains
-use Rattle.gains.specs.declared.Gained.{Gained}
-use Rattle.gains.specs.declared.Gained.TheVariants.{Vertices as Gains, Refused as NoGains}
+use Rattle.gains.specs.Gained.{Gained}
+use Rattle.gains.specs.Gained.{Vertices as Gains, Refused as NoGains}
 use Rattle.tick.specs.declared.Run.{Run}
 use Rattle.tick.specs.declared.Ticked.{Ticked}
-use Rattle.tick.specs.declared.Report.{Report}
-use Rattle.tick.specs.declared.Report.TheVariants.{Moved, Done, Refused as NoTick}
+use Rattle.tick.specs.Report.{Report}
+use Rattle.tick.specs.declared.Step.TheVariants as steps
+use Rattle.tick.specs.Report.{Moved, Done, Refused as NoTick}
 use Rattle.tick.specs.Run.{over, ticked_of, of_report}
 use Rattle.tick.specs.Suits.{suits}
 use Rattle.times.specs.Times.{too_long_of, judge_times}
@@ -37,33 +39,33 @@ use Rattle.schedule.specs.Start.{started_on, start_beside, start_after, start_of
 use Rattle.schedule.specs.Tick.{tick_on_of, tick_after, tick_of}
 use Rattle.leaps.specs.Finishes.{finish_of}
 use Rattle.schedule.specs.Whole.{of_played, play_in, play_on_of, play_beside, play_after, play_of}
-use Rattle.schedule.specs.declared.Played.{Played}
-use Rattle.schedule.specs.declared.Played.TheVariants.{Finish, Refused as NoRun}
+use Rattle.schedule.specs.Played.{Played}
+use Rattle.schedule.specs.Played.{Finish, Refused as NoRun}
 use Rattle.claims.specs.Claims.{WriteAnswered}
 use Rattle.claims.specs.Claims as claims
 
 -- ---- of each kind of answer: where a refusal's number is above 0
 
 pub zero-answer : (a : Answer) → ((x : Refusal) → a ≡ Refused x → 0 < x.number) → ((of_answer a).number ≡ 0) ↔ ((x : Refusal) → a ≡ Refused x → ⊥)
-zero-answer Accepted h = (λ z x e. let c : ◌≡◌ {A = ℕ} 0 1 = cc in omega arith, λ f. refl)
-zero-answer (Refused r) h = (λ z. absurd (omega (arith, h r refl)), λ f. absurd (f r refl))
+zero-answer (Ok _) h = (λ z x e. let c : ◌≡◌ {A = ℕ} 0 1 = cc in omega arith, λ f. refl)
+zero-answer (Err r) h = (λ z. absurd (omega (arith, h r refl)), λ f. absurd (f r refl))
 
 pub zero-wrote : (w : Wrote) → ((x : Refusal) → w ≡ NotWritten x → 0 < x.number) → ((of_wrote w).number ≡ 0) ↔ ((x : Refusal) → w ≡ NotWritten x → ⊥)
-zero-wrote (Wrote-bytes size) h = (λ z x e. let c : ◌≡◌ {A = ℕ} 0 1 = cc in omega arith, λ f. refl)
-zero-wrote (NotWritten r) h = (λ z. absurd (omega (arith, h r refl)), λ f. absurd (f r refl))
+zero-wrote (Ok size) h = (λ z x e. let c : ◌≡◌ {A = ℕ} 0 1 = cc in omega arith, λ f. refl)
+zero-wrote (Err r) h = (λ z. absurd (omega (arith, h r refl)), λ f. absurd (f r refl))
 
 pub zero_pathed : (p : Pathed) → ((x : Refusal) → p ≡ NoPath x → 0 < x.number) → ((of_pathed p).number ≡ 0) ↔ ((x : Refusal) → p ≡ NoPath x → ⊥)
-zero_pathed (Vertices n) h = (λ z x e. let c : ◌≡◌ {A = ℕ} 0 1 = cc in omega arith, λ f. refl)
-zero_pathed (NoPath r) h = (λ z. absurd (omega (arith, h r refl)), λ f. absurd (f r refl))
+zero_pathed (Ok n) h = (λ z x e. let c : ◌≡◌ {A = ℕ} 0 1 = cc in omega arith, λ f. refl)
+zero_pathed (Err r) h = (λ z. absurd (omega (arith, h r refl)), λ f. absurd (f r refl))
 
 pub zero-report : (t : Report) → ((x : Refusal) → t ≡ NoTick x → 0 < x.number) → ((of_report t).number ≡ 0) ↔ ((x : Refusal) → t ≡ NoTick x → ⊥)
-zero-report Moved h = (λ z x e. let c : ◌≡◌ {A = ℕ} 0 1 = cc in omega arith, λ f. refl)
-zero-report Done h = (λ z x e. let c : ◌≡◌ {A = ℕ} 0 1 = cc in omega arith, λ f. refl)
-zero-report (NoTick r) h = (λ z. absurd (omega (arith, h r refl)), λ f. absurd (f r refl))
+zero-report (Ok steps.Moved) h = (λ z x e. let c : ◌≡◌ {A = ℕ} 0 1 = cc in omega arith, λ f. refl)
+zero-report (Ok steps.Done) h = (λ z x e. let c : ◌≡◌ {A = ℕ} 0 1 = cc in omega arith, λ f. refl)
+zero-report (Err r) h = (λ z. absurd (omega (arith, h r refl)), λ f. absurd (f r refl))
 
 pub zero-played : (p : Played) → ((x : Refusal) → p ≡ NoRun x → 0 < x.number) → ((of_played p).number ≡ 0) ↔ ((x : Refusal) → p ≡ NoRun x → ⊥)
-zero-played (Finish t) h = (λ z x e. let c : ◌≡◌ {A = ℕ} 0 1 = cc in omega arith, λ f. refl)
-zero-played (NoRun r) h = (λ z. absurd (omega (arith, h r refl)), λ f. absurd (f r refl))
+zero-played (Ok t) h = (λ z x e. let c : ◌≡◌ {A = ℕ} 0 1 = cc in omega arith, λ f. refl)
+zero-played (Err r) h = (λ z. absurd (omega (arith, h r refl)), λ f. absurd (f r refl))
 
 -- ---- what each entry says no with
 
@@ -126,12 +128,12 @@ unfolding start_of started_on
 start-says s e x h = after (read_of s).answer refl h
   where
     beside : (a : Answer) → judge_times (read_of s).graph e ≡ a → (start_beside a (read_of s).graph e).answer ≡ Refused x → Sayable x.number
-    beside Accepted q h = absurd (let c : ◌≡◌ {A = ℕ} 0 1 = cc in omega arith)
-    beside (Refused r) q h = times-says (read_of s).graph e x (q ∙ h)
+    beside (Ok _) q h = absurd (let c : ◌≡◌ {A = ℕ} 0 1 = cc in omega arith)
+    beside (Err r) q h = times-says (read_of s).graph e x (q ∙ h)
 
     after : (a : Answer) → (read_of s).answer ≡ a → (start_after a (read_of s).graph e).answer ≡ Refused x → Sayable x.number
-    after Accepted q h = beside (judge_times (read_of s).graph e) refl h
-    after (Refused r) q h = read-says s x (q ∙ h)
+    after (Ok _) q h = beside (judge_times (read_of s).graph e) refl h
+    after (Err r) q h = read-says s x (q ∙ h)
 
 pub tick-says : (s : List ℕ) (r : Run) (x : Refusal) → (tick_of s r).report ≡ NoTick x → Sayable x.number
 unfolding tick_of tick_on_of ticked_of
@@ -148,8 +150,8 @@ tick-says s r x h = after (read_of s).answer refl h
     ticked false b n q = let p : record { number = 16; place = 0 } ≡ x = cc in rw (← p) (later (lit< tt))
 
     after : (a : Answer) → (read_of s).answer ≡ a → (tick_after a (read_of s).graph r).report ≡ NoTick x → Sayable x.number
-    after Accepted q h = ticked (suits (read_of s).graph r) (over (read_of s).graph r) _ h
-    after (Refused y) q h = let p : y ≡ x = cc in read-says s x (q ∙ ap Refused p)
+    after (Ok _) q h = ticked (suits (read_of s).graph r) (over (read_of s).graph r) _ h
+    after (Err y) q h = let p : y ≡ x = cc in read-says s x (q ∙ ap Refused p)
 
 pub run-says : (s e : List ℕ) (m : ℕ) (x : Refusal) → play_of s e m ≡ NoRun x → Sayable x.number
 unfolding play_of play_on_of play_in
@@ -160,36 +162,36 @@ run-says s e m x h = after (read_of s).answer refl h
     roomed false t q = absurd (let c : ◌≡◌ {A = ℕ} 0 1 = cc in omega arith)
 
     beside : (a : Answer) → judge_times (read_of s).graph e ≡ a → play_beside a (read_of s).graph e m ≡ NoRun x → Sayable x.number
-    beside Accepted q h = roomed (ltb m (read_of s).graph.n) _ h
-    beside (Refused r) q h = let p : r ≡ x = cc in times-says (read_of s).graph e x (q ∙ ap Refused p)
+    beside (Ok _) q h = roomed (ltb m (read_of s).graph.n) _ h
+    beside (Err r) q h = let p : r ≡ x = cc in times-says (read_of s).graph e x (q ∙ ap Refused p)
 
     after : (a : Answer) → (read_of s).answer ≡ a → play_after a (read_of s).graph e m ≡ NoRun x → Sayable x.number
-    after Accepted q h = beside (judge_times (read_of s).graph e) refl h
-    after (Refused y) q h = let p : y ≡ x = cc in read-says s x (q ∙ ap Refused p)
+    after (Ok _) q h = beside (judge_times (read_of s).graph e) refl h
+    after (Err y) q h = let p : y ≡ x = cc in read-says s x (q ∙ ap Refused p)
 
 -- ---- so number 12 is given by no answer
 
 pub never_answer : (a : Answer) → ((x : Refusal) → a ≡ Refused x → Sayable x.number) → (of_answer a).number ≡ 12 → ⊥
-never_answer Accepted h z = omega arith
-never_answer (Refused r) h z = (h r refl).not_12 z
+never_answer (Ok _) h z = omega arith
+never_answer (Err r) h z = (h r refl).not_12 z
 
 pub never_wrote : (w : Wrote) → ((x : Refusal) → w ≡ NotWritten x → Sayable x.number) → (of_wrote w).number ≡ 12 → ⊥
-never_wrote (Wrote-bytes size) h z = omega arith
-never_wrote (NotWritten r) h z = (h r refl).not_12 z
+never_wrote (Ok size) h z = omega arith
+never_wrote (Err r) h z = (h r refl).not_12 z
 
 pub never_pathed : (p : Pathed) → ((x : Refusal) → p ≡ NoPath x → Sayable x.number) → (of_pathed p).number ≡ 12 → ⊥
-never_pathed (Vertices n) h z = omega arith
-never_pathed (NoPath r) h z = (h r refl).not_12 z
+never_pathed (Ok n) h z = omega arith
+never_pathed (Err r) h z = (h r refl).not_12 z
 
 pub never_gained : (g : Gained) → ((x : Refusal) → g ≡ NoGains x → Sayable x.number) → (gains.of_gained g).number ≡ 12 → ⊥
-never_gained (Gains n) h z = omega arith
-never_gained (NoGains r) h z = (h r refl).not_12 z
+never_gained (Ok n) h z = omega arith
+never_gained (Err r) h z = (h r refl).not_12 z
 
 pub never_report : (t : Report) → ((x : Refusal) → t ≡ NoTick x → Sayable x.number) → (of_report t).number ≡ 12 → ⊥
-never_report Moved h z = omega arith
-never_report Done h z = omega arith
-never_report (NoTick r) h z = (h r refl).not_12 z
+never_report (Ok steps.Moved) h z = omega arith
+never_report (Ok steps.Done) h z = omega arith
+never_report (Err r) h z = (h r refl).not_12 z
 
 pub never_played : (p : Played) → ((x : Refusal) → p ≡ NoRun x → Sayable x.number) → (of_played p).number ≡ 12 → ⊥
-never_played (Finish t) h z = omega arith
-never_played (NoRun r) h z = (h r refl).not_12 z
+never_played (Ok t) h z = omega arith
+never_played (Err r) h z = (h r refl).not_12 z

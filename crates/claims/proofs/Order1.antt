@@ -18,12 +18,12 @@ use Rattle.model.proofs.Alike.{wcet_well_formed, wcet-acyclic}
 use Rattle.graph.specs.Model.{as_model}
 use Rattle.graph.specs.Judge.{read_of}
 use Rattle.graph.specs.declared.Refusal.{Refusal}
-use Rattle.graph.specs.declared.Taken.{Taken}
-use Rattle.graph.specs.declared.Answer.TheVariants.{Accepted, Refused}
+use Rattle.graph.specs.Answer.{Taken}
+use Rattle.graph.specs.Answer.{Accepted, Refused}
 use Rattle.graph.proofs.Accepted as reader
 use Rattle.gains.specs.Answers.{GainedIn, narrow, found, GainsOf, refused, accepted, AlteredIn, no_vertex, too_long, altered, AlteredOf}
-use Rattle.gains.specs.declared.Gained.{Gained}
-use Rattle.gains.specs.declared.Gained.TheVariants.{Vertices, Refused as NoGains}
+use Rattle.gains.specs.Gained.{Gained}
+use Rattle.gains.specs.Gained.{Vertices, Refused as NoGains}
 use Rattle.gains.proofs.Unique.{gains-of_unique, altered-of_unique}
 use Rattle.summary.specs.declared.Summary.{Summary}
 use Rattle.summary.proofs.Unique.{tables_unique}

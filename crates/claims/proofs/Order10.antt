@@ -16,16 +16,16 @@ use Rattle.model.specs.Graph.{Source}
 use Rattle.model.specs.Cycle.{Walk, one}
 use Rattle.model.proofs.Bools.{clash, not-true}
 use Rattle.graph.specs.Model.{AcceptedGraph, as_model, from, to}
-use Rattle.graph.specs.declared.Answer.{Answer}
-use Rattle.graph.specs.declared.Answer.TheVariants.{Accepted}
-use Rattle.graph.specs.declared.Taken.{Taken}
+use Rattle.graph.specs.Answer.{Answer}
+use Rattle.graph.specs.Answer.{Accepted}
+use Rattle.graph.specs.Answer.{Taken}
 use Rattle.vset.specs.Members.{is_in}
 use Rattle.sets.specs.Sets.{row_of, Table}
 use Rattle.sets.proofs.Tables.{holds_unique}
 use Rattle.rows.specs.Rows.{Kin}
 use Rattle.rows.proofs.Learning.{predecessor-edge}
 use Rattle.rows.proofs.Telling.{predecessor-sound, predecessor-complete, predecessor-past, ancestor-sound, ancestor-complete, ancestor-past, ancestor_other, ones-vertices}
-use Rattle.reader.proofs.Laying.{read-accepted}
+use Rattle.graph.proofs.Accepted as reader
 use Rattle.claims.specs.Claims.{Bytes}
 use Rattle.claims.specs.Entries.{ReadGives, RowsGives, KinGives}
 use Rattle.claims.proofs.Entries.{read-given, rows-given, kin_given}
@@ -41,7 +41,7 @@ kin_answer R K = (kin_given K).0 ∙ sym (ap (λ (z : Taken). z.answer) (read-gi
 
 module _ {s : List ℕ} {t : Taken} (bytes : Bytes s) (R : ReadGives s t) (ok : t.answer ≡ Accepted) where
   A : AcceptedGraph t.graph
-  A = read-accepted s (read-given R) bytes ok
+  A = rw (read-given R) (reader.taken s bytes (sym (ap (λ (z : Taken). z.answer) (read-given R)) ∙ ok))
 
   kin : {x : Answer} {p a : List (List ℕ)} → KinGives s x p a → Kin t.graph p a
   kin K = rw (read-given R) ((kin_given K).1 (sym (ap (λ (z : Taken). z.answer) (read-given R)) ∙ ok))

@@ -12,7 +12,6 @@ use Rattle.model.specs.Bounds.{NewB1}
 use Rattle.model.specs.PathCount.{path_count}
 use Rattle.model.specs.Gain.{with_wcet}
 use Rattle.model.specs.Better.{Better, Looser, with_cores, without_edge, SameGraph, Improved, raised, lowered, Loosened, improved, removed, Several}
-use Rattle.model.proofs.Bools.{le-or-lt}
 use Rattle.model.proofs.Better as model
 use Rattle.model.proofs.Changes as changes
 use Rattle.model.proofs.Longest.{old_b_unique}
@@ -20,15 +19,16 @@ use Rattle.model.proofs.Visit.{new_b_2_unique}
 use Rattle.graph.specs.Judge.{read_of}
 use Rattle.graph.specs.Model.{as_model}
 use Rattle.graph.specs.declared.Graph as file
-use Rattle.graph.specs.declared.Taken.{Taken}
-use Rattle.graph.specs.declared.Answer.TheVariants.{Accepted}
+use Rattle.graph.specs.Answer.{Taken}
+use Rattle.graph.specs.Answer.{Accepted}
 use Rattle.graph.proofs.Accepted as reader
-use Rattle.boards.specs.Points.{point_of}
+use Rattle.boards.specs.Points.{point_of, IsAsGood}
 use Rattle.boards.specs.declared.Point.{Point}
+use Rattle.boards.specs.declared.Point.TheVariants.{AsGood}
 use Rattle.boards.proofs.Good.{as_good, as_good_but_edges}
 use Rattle.second.specs.Answers.{SecondIn, too_many, found, SecondOf, refused, accepted}
-use Rattle.second.specs.declared.Seconded.{Seconded}
-use Rattle.bounds.specs.declared.Bounded.{Bounded}
+use Rattle.second.specs.Seconded.{Seconded}
+use Rattle.bounds.specs.Bounded.{Bounded}
 use Rattle.claims.specs.Claims.{Bytes, IsAccepted, graph_in}
 use Rattle.claims.specs.Entries.{ReadGives, BoundsGives, SecondGives, WorseGives}
 use Rattle.claims.specs.Worked as worked
@@ -39,9 +39,9 @@ use Rattle.claims.proofs.Worked.{cases, c_raises_b, parted-lacks, joined_paths, 
 
 -- ---- NEW-B-1
 
--- row 0 or 1: at least as good, but perhaps for edges that are missing
-looser : (g h : file.Graph) → (point_of g h).row ≤ 1 → Looser (as_model g) (as_model h)
-looser g h l = ⊎_elim (λ m. as_good_but_edges g h (omega (arith, l, m))) (λ m. model.better_looser (as_good g h (omega (arith, m)))) (le-or-lt 1 (point_of g h).row)
+-- at least as good, but perhaps for edges that are missing
+looser : (g h : file.Graph) → IsAsGood (point_of g h) → Looser (as_model g) (as_model h)
+looser g h l = ⊎_elim (λ m. model.better_looser (as_good g h m)) (λ m. as_good_but_edges g h m) l
 
 module _ {s s' : List ℕ} {b b' : Bounded} (bytes : Bytes s) (bytes' : Bytes s') (B : BoundsGives s b) (ok : b.answer ≡ Accepted) (B' : BoundsGives s' b') (ok' : b'.answer ≡ Accepted) where
   new-falls : Looser (graph_in s) (graph_in s') → b'.new.0 ≤ b.new.0
@@ -74,9 +74,9 @@ module _ {s s' : List ℕ} {b b' : Bounded} (bytes : Bytes s) (bytes' : Bytes s'
   pub several_new : Several Loosened (graph_in s) (graph_in s') → b'.new.0 ≤ b.new.0
   several_new m = new-falls (changes.several_looser m)
 
-  -- THEOREM. What `plan compare` promises: where it finds no point in which the second board is worse (row 0), or only that edges are missing
-  -- (row 1), NEW-B-1 and its whole ticks do not rise.
-  pub promised_new : {p : Point} → WorseGives (read_of s).graph (read_of s').graph p → p.row ≤ 1 → (b'.new.0 ≤ b.new.0) × (b'.ticks.0 ≤ b.ticks.0)
+  -- THEOREM. What `plan compare` promises: where it finds no point in which the second board is worse, or only that edges are missing,
+  -- NEW-B-1 and its whole ticks do not rise.
+  pub promised_new : {p : Point} → WorseGives (read_of s).graph (read_of s').graph p → IsAsGood p → (b'.new.0 ≤ b.new.0) × (b'.ticks.0 ≤ b.ticks.0)
   promised_new {p} w l = let z = looser (read_of s).graph (read_of s').graph (rw (sym (worse-given w)) l) in (new-falls z, board-ticks z)
 
 -- ---- NEW-B-2, wherever both graphs get it
@@ -90,8 +90,8 @@ module _ {s s' : List ℕ} {r r' : Seconded} (bytes : Bytes s) (bytes' : Bytes s
       model.better_second A.well_formed A'.well_formed l _ _ (second_is R ok).0 (second_is R' ok').0
 
   -- THEOREM. What `plan compare` promises of it: where it finds no point in which the second board is worse, NEW-B-2 does not rise.
-  pub promised_second : {p : Point} → WorseGives (read_of s).graph (read_of s').graph p → p.row ≡ 0 → r'.parts.0 ≤ r.parts.0
-  promised_second w e = board-second (as_good (read_of s).graph (read_of s').graph (ap (λ (x : Point). x.row) (sym (worse-given w)) ∙ e))
+  pub promised_second : {p : Point} → WorseGives (read_of s).graph (read_of s').graph p → p ≡ AsGood → r'.parts.0 ≤ r.parts.0
+  promised_second w e = board-second (as_good (read_of s).graph (read_of s').graph (sym (worse-given w) ∙ e))
 
   -- THEOREM. One type gets more cores.
   pub cores-second : (t m : ℕ) → (graph_in s).cores t ≤ m → SameGraph (with_cores (graph_in s) t m) (graph_in s') → r'.parts.0 ≤ r.parts.0

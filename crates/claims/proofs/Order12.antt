@@ -17,8 +17,8 @@ use Rattle.graph.specs.File.{records}
 use Rattle.graph.specs.Rules.{rule1, rule3}
 use Rattle.graph.specs.Judge.{read_of, judge_from}
 use Rattle.graph.specs.declared.Refusal.{Refusal}
-use Rattle.graph.specs.declared.Taken.{Taken}
-use Rattle.graph.specs.declared.Answer.TheVariants as answers
+use Rattle.graph.specs.Answer.{Taken}
+use Rattle.graph.specs.Answer as answers
 use Rattle.mends.specs.Mends.{Mend, due, is_edge, loop, double, stays, kept, NoMend}
 use Rattle.mends.specs.Mended.{place, mended_of}
 use Rattle.mends.specs.Listed.{list_of, Says, Before}
@@ -26,8 +26,8 @@ use Rattle.mends.specs.Redo.{listed, redo}
 use Rattle.mends.specs.Answers.{unknown, Mendable, mend_of, file_after, list_after_of, Same}
 use Rattle.mends.specs.Kept.{KeptEdge, Standing, Untouched, Found, Above}
 use Rattle.mends.specs.Repairable.{Repairable}
-use Rattle.mends.specs.declared.Mended.{Mended}
-use Rattle.mends.specs.declared.Mended.TheVariants.{Lengths, Refused}
+use Rattle.mends.specs.Answers.{Mended}
+use Rattle.mends.specs.Answers.{Lengths, Refused}
 use Rattle.mends.proofs.Answering.{refused_1, refused_2, refused_3, refused_15, mended, leaves_file, leaves_list, holds-file, holds-list, unchanged, again, accepted_unchanged}
 use Rattle.mends.proofs.Ends.{kept-tells}
 use Rattle.mends.proofs.Unchanged as keeps

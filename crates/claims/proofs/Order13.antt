@@ -15,13 +15,13 @@ use Rattle.model.proofs.Bools.{le-or-lt}
 use Rattle.graph.specs.Judge.{read_of}
 use Rattle.graph.specs.Model.{AcceptedGraph}
 use Rattle.graph.specs.declared.Refusal.{Refusal}
-use Rattle.graph.specs.declared.Taken.{Taken}
-use Rattle.graph.specs.declared.Answer.{Answer}
-use Rattle.graph.specs.declared.Answer.TheVariants.{Accepted, Refused}
+use Rattle.graph.specs.Answer.{Taken}
+use Rattle.graph.specs.Answer.{Answer}
+use Rattle.graph.specs.Answer.{Accepted, Refused}
 use Rattle.graph.proofs.Accepted as reader
-use Rattle.bounds.specs.declared.Bounded.{Bounded}
+use Rattle.bounds.specs.Bounded.{Bounded}
 use Rattle.enough.specs.Answers.{Meets, NoneMeets, Smallest, EnoughIn}
-use Rattle.enough.specs.declared.Fewest.{Fewest}
+use Rattle.enough.specs.Fewest.{Fewest}
 use Rattle.enough.proofs.Meeting.{meets-within, new-there, meets-more, from-smallest, smallest-below}
 use Rattle.enough.proofs.Boards.{board-least, board-most, board-tells, as_declared, unused_one}
 use Rattle.enough.proofs.Saying.{says_25, says_26, says-no, says-number, some_number, says_first, says-of-graph, says-accepted}

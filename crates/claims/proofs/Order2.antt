@@ -28,10 +28,10 @@ use Rattle.model.proofs.Alike.{Alike}
 use Rattle.model.proofs.Demand3.{demand_3_old}
 use Rattle.graph.specs.Model.{AcceptedGraph}
 use Rattle.graph.specs.Judge.{read_of}
-use Rattle.graph.specs.declared.Answer.TheVariants.{Accepted}
+use Rattle.graph.specs.Answer.{Accepted}
 use Rattle.graph.proofs.Accepted as reader
 use Rattle.bounds.specs.Answers.{Figures}
-use Rattle.bounds.specs.declared.Bounded.{Bounded}
+use Rattle.bounds.specs.Bounded.{Bounded}
 use Rattle.bounds.proofs.Unused.{old_b_same, new_b_1_same}
 use Rattle.claims.specs.Claims.{Bytes, graph_in}
 use Rattle.claims.specs.Entries.{BoundsGives}

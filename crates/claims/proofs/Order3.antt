@@ -4,6 +4,7 @@
 --
 -- The demands keep their files. `accepted_exactly` (Demand1) says which files are accepted now, and it speaks of no source and no sink; Demand2,
 -- Demand3 and Called are said of every accepted file, so that they hold over this wider class as they stand.
+use Rattle.std.specs.Prelude.{Ok, Err}
 use mathlib.Core.Path.{◌≡◌, refl, sym, ap, ◌∙◌}
 use mathlib.Core.Logic.{◌⊎◌, inl, inr, ◌↔◌}
 use mathlib.Core.Bool.{true, false}
@@ -25,31 +26,31 @@ use Rattle.graph.specs.Rules.{holds, places}
 use Rattle.graph.specs.Judge.{judge_from, read_of}
 use Rattle.graph.specs.Said.{of_answer}
 use Rattle.graph.specs.declared.Refusal.{Refusal}
-use Rattle.graph.specs.declared.Taken.{Taken}
-use Rattle.graph.specs.declared.Answer.{Answer}
-use Rattle.graph.specs.declared.Answer.TheVariants.{Accepted, Refused}
+use Rattle.graph.specs.Answer.{Taken}
+use Rattle.graph.specs.Answer.{Answer}
+use Rattle.graph.specs.Answer.{Accepted, Refused}
 use Rattle.graph.proofs.Judging.{none-holds, rightly, accepts, rightly_judged}
 use Rattle.units.specs.declared.Ticks.{Ticks}
 use Rattle.writer.specs.Lists.{Lists}
 use Rattle.writer.specs.Write.{file_of, wrote_by, wrote_of, room_by, room_after, of_wrote}
-use Rattle.writer.specs.declared.Wrote.{Wrote}
-use Rattle.writer.specs.declared.Wrote.TheVariants.{Refused as NotWritten}
+use Rattle.writer.specs.Wrote.{Wrote}
+use Rattle.writer.specs.Wrote.{Refused as NotWritten}
 use Rattle.bounds.specs.Answers.{Figures, PathIn, PathOf, refused, accepted, of_pathed}
-use Rattle.bounds.specs.declared.Bounded.{Bounded}
-use Rattle.bounds.specs.declared.Pathed.{Pathed}
+use Rattle.bounds.specs.Bounded.{Bounded}
+use Rattle.bounds.specs.Pathed.{Pathed}
 use Rattle.gains.specs.Answers.{GainedIn, AlteredIn, GainsOf, AlteredOf, of_gained}
 use Rattle.gains.specs.Answers as gains
-use Rattle.gains.specs.declared.Gained.{Gained}
+use Rattle.gains.specs.Gained.{Gained}
 use Rattle.tick.specs.declared.Run.{Run}
-use Rattle.tick.specs.declared.Report.{Report}
+use Rattle.tick.specs.Report.{Report}
 use Rattle.tick.specs.declared.Ticked.{Ticked}
 use Rattle.tick.specs.Run.{of_report}
 use Rattle.schedule.specs.Start.{started_on, start_of}
 use Rattle.schedule.specs.Tick.{tick_on_of, tick_of}
 use Rattle.schedule.specs.Whole.{play_on_of, play_of, filled_beside, finishes_of, of_played}
-use Rattle.schedule.specs.declared.Started.{Started}
-use Rattle.schedule.specs.declared.Played.{Played}
-use Rattle.schedule.specs.declared.Played.TheVariants.{Finish as Finished}
+use Rattle.schedule.specs.Start.{Started}
+use Rattle.schedule.specs.Played.{Played}
+use Rattle.schedule.specs.Played.{Finish as Finished}
 use Rattle.codes.specs.declared.PlannerGraph.{PlannerGraph}
 use Rattle.codes.specs.declared.PlannerCount.{PlannerCount}
 use Rattle.codes.specs.declared.PlannerBounds.{PlannerBounds}
@@ -213,7 +214,7 @@ module _ (a : ℕ) (s : List ℕ) (known : a ≤ 12) where
       none e num k f l d = as_before s num k (λ q. omega arith) ∙ none-holds a s e num f l k d
 
       go : (x : Answer) → judge_from a s ≡ x → (rule12 s ≡ true) ⊎ (rule12 s ≡ false) → AcceptedBefore a s ⊎ ((r : Refusal) × RefusedBefore a s r)
-      go (Refused r) e y =
+      go (Err r) e y =
           let R = rightly a s r e in
           let q = as_before s r.number in
           inr (
@@ -227,7 +228,7 @@ module _ (a : ℕ) (s : List ℕ) (known : a ≤ 12) where
               no_lower = λ num k f b d. as_before s num k (λ z. omega (arith, R.known)) ∙ R.no_lower num k f b d;
             },
           )
-      go Accepted e (inl t) = inr (
+      go (Ok _) e (inl t) = inr (
         at_0 12,
         record {
           least = known;
@@ -238,7 +239,7 @@ module _ (a : ℕ) (s : List ℕ) (known : a ≤ 12) where
           no_lower = none e;
         },
       )
-      go Accepted e (inr n) = inl (λ num k f l d. at num k f l d (ℕ_discrete num 12))
+      go (Ok _) e (inr n) = inl (λ num k f l d. at num k f l d (ℕ_discrete num 12))
         where
           at : (num k : ℕ) → a ≤ num → num < 13 → k < places s num → Dec (num ≡ 12) → held_before s num k ≡ false
           at num k f l d (yes q) = rw q (twelfth s k ∙ n)

@@ -17,13 +17,13 @@ use Rattle.model.proofs.Values.{second-le-new}
 use Rattle.model.proofs.Counted as model
 use Rattle.graph.specs.Judge.{read_of}
 use Rattle.graph.specs.declared.Refusal.{Refusal}
-use Rattle.graph.specs.declared.Taken.{Taken}
-use Rattle.graph.specs.declared.Answer.TheVariants.{Accepted, Refused}
+use Rattle.graph.specs.Answer.{Taken}
+use Rattle.graph.specs.Answer.{Accepted, Refused}
 use Rattle.graph.proofs.Accepted as reader
 use Rattle.second.specs.Answers.{SecondIn, too_many, found, SecondOf, refused, accepted}
-use Rattle.second.specs.declared.Seconded.{Seconded}
+use Rattle.second.specs.Seconded.{Seconded}
 use Rattle.second.proofs.Unique.{second-of_unique}
-use Rattle.bounds.specs.declared.Bounded.{Bounded}
+use Rattle.bounds.specs.Bounded.{Bounded}
 use Rattle.codes.specs.Coded.{coded_second_of}
 use Rattle.codes.specs.declared.PlannerSecond.{PlannerSecond}
 use Rattle.claims.specs.Claims.{Bytes, IsAccepted, graph_in, at_0}

@@ -1,6 +1,7 @@
 -- Order 5, "Late or not": "with these execution times, does the list schedule end by tick d?"
 --
 -- Said over the contract of the entry `late` (specs/Entries), beside what `run` and `bounds` give for the same file and times.
+use Rattle.std.specs.Prelude.{Ok, Err}
 use mathlib.Core.Path.{◌≡◌, refl, sym, ap, ◌∙◌}
 use mathlib.Core.Bool.{true, false}
 use mathlib.Core.Logic.{◌↔◌}
@@ -15,9 +16,9 @@ use Rattle.model.proofs.Longest.{new_b_1_unique}
 use Rattle.graph.specs.Model.{as_model}
 use Rattle.graph.specs.Judge.{read_of}
 use Rattle.graph.specs.declared.Refusal.{Refusal}
-use Rattle.graph.specs.declared.Taken.{Taken}
-use Rattle.graph.specs.declared.Answer.{Answer}
-use Rattle.graph.specs.declared.Answer.TheVariants.{Accepted, Refused}
+use Rattle.graph.specs.Answer.{Taken}
+use Rattle.graph.specs.Answer.{Answer}
+use Rattle.graph.specs.Answer.{Accepted, Refused}
 use Rattle.graph.proofs.Accepted as reader
 use Rattle.units.specs.declared.Ticks.{Ticks}
 use Rattle.tick.specs.declared.Run.{Run}
@@ -28,10 +29,10 @@ use Rattle.leaps.specs.Finishes.{finish_of}
 use Rattle.leaps.specs.Leaps.{until_of}
 use Rattle.leaps.proofs.Finishes.{finish-below-new}
 use Rattle.leaps.proofs.Instants.{left-start, fresh_start}
-use Rattle.bounds.specs.declared.Bounded.{Bounded}
-use Rattle.schedule.specs.declared.Played.TheVariants.{Finish as Finished}
+use Rattle.bounds.specs.Bounded.{Bounded}
+use Rattle.schedule.specs.Played.{Finish as Finished}
 use Rattle.late.specs.Answers.{Told, Nothing, Beside, judged_after, judged_of, LateOf}
-use Rattle.late.specs.declared.Lateness.{Lateness}
+use Rattle.late.specs.Lateness.{Lateness}
 use Rattle.late.proofs.Unique.{late_unique}
 use Rattle.codes.specs.CodedRun.{coded_late_of}
 use Rattle.codes.specs.declared.PlannerLate.{PlannerLate}
@@ -51,8 +52,8 @@ unfolding judged_of
 fine-judged s e j = go (read_of s).answer refl j
   where
     go : (a : Answer) → (read_of s).answer ≡ a → judged_after a (read_of s).graph e ≡ Accepted → Fine s e
-    go Accepted q j = record { taken = q; fit = j }
-    go (Refused x) q j = absurd (let z : ◌≡◌ {A = ℕ} 0 1 = cc in omega arith)
+    go (Ok _) q j = record { taken = q; fit = j }
+    go (Err x) q j = absurd (let z : ◌≡◌ {A = ℕ} 0 1 = cc in omega arith)
 
 -- ---- yes or no, and the ticks played
 

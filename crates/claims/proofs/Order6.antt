@@ -11,8 +11,8 @@ use Prim.Native.Nat.{ℕ}
 use lib.Dec.{lit<, lit≤}
 use Rattle.graph.specs.Rules.{holds, rule11}
 use Rattle.graph.specs.Judge.{read_of}
-use Rattle.graph.specs.declared.Answer.TheVariants.{Refused}
-use Rattle.graph.specs.declared.Taken.{Taken}
+use Rattle.graph.specs.Answer.{Refused}
+use Rattle.graph.specs.Answer.{Taken}
 use Rattle.claims.specs.Claims.{at_0, NoneFrom}
 use Rattle.claims.specs.Entries.{ReadGives}
 use Rattle.claims.proofs.Entries.{read-given}

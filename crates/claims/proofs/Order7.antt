@@ -3,6 +3,7 @@
 --
 -- Said over the contracts of the entries `replay` and `log` (specs/Entries). `schedule_of l` is the schedule that the log l records: who runs in
 -- which tick, and each vertex's total as its time (`recorded`, specs/Recorded).
+use Rattle.std.specs.Prelude.{Ok, Err}
 use mathlib.Core.Path.{◌≡◌, refl, sym, ap, ◌∙◌}
 use mathlib.Core.Bool.{Bool, true, false}
 use mathlib.Core.Logic.{◌↔◌, ◌⊎◌}
@@ -26,9 +27,9 @@ use Rattle.graph.specs.File.{records}
 use Rattle.graph.specs.Judge.{read_of}
 use Rattle.graph.specs.Model.{as_model}
 use Rattle.graph.specs.declared.Refusal.{Refusal}
-use Rattle.graph.specs.declared.Taken.{Taken}
-use Rattle.graph.specs.declared.Answer.{Answer}
-use Rattle.graph.specs.declared.Answer.TheVariants as answers
+use Rattle.graph.specs.Answer.{Taken}
+use Rattle.graph.specs.Answer.{Answer}
+use Rattle.graph.specs.Answer as answers
 use Rattle.graph.proofs.Accepted as reader
 use Rattle.units.specs.declared.Ticks.{Ticks}
 use Rattle.recorded.specs.Log.{InForm, wrong_length_of, fault, unended}
@@ -38,20 +39,20 @@ use Rattle.recorded.specs.LogOf.{log_of}
 use Rattle.recorded.specs.Judge.{First, Rightly}
 use Rattle.recorded.proofs.Empty.{empty-times}
 use Rattle.recorded.proofs.Saying.{says_18, says_19, says_20, says_21, says_22, says_15, says-one}
-use Rattle.bounds.specs.declared.Bounded.{Bounded}
-use Rattle.second.specs.declared.Seconded.{Seconded}
+use Rattle.bounds.specs.Bounded.{Bounded}
+use Rattle.second.specs.Seconded.{Seconded}
 use Rattle.replay.specs.Answers.{replay_of, times_after_of}
-use Rattle.replay.specs.declared.Replayed.{Replayed}
-use Rattle.replay.specs.declared.Replayed.TheVariants.{Finish as Finishes, Refused}
+use Rattle.replay.specs.Replayed.{Replayed}
+use Rattle.replay.specs.Replayed.{Finish as Finishes, Refused}
 use Rattle.replay.proofs.Accepting.{accepts, accepted, refused, replay-ends_by, replay-ends_by_second as ends-second, replay-first, times-kept, times-given}
 use Rattle.replay.proofs.ListReplay.{empty-replay, list-replay, list-replay-times}
 use Rattle.writer.specs.Write.{wrote_by}
-use Rattle.writer.specs.declared.Wrote.{Wrote}
-use Rattle.writer.specs.declared.Wrote.TheVariants.{Bytes as Written, Refused as NotWritten}
+use Rattle.writer.specs.Wrote.{Wrote}
+use Rattle.writer.specs.Wrote.{Bytes as Written, Refused as NotWritten}
 use Rattle.times.specs.Times.{times_of, judge_times}
 use Rattle.times.proofs.Fits.{times_fit}
 use Rattle.leaps.specs.Finishes.{finish_of}
-use Rattle.schedule.specs.declared.Played.TheVariants.{Finish as Finished}
+use Rattle.schedule.specs.Played.{Finish as Finished}
 use Rattle.logs.proofs.Room.{log-short}
 use Rattle.logs.specs.Answers.{log_for, logged_on, logged_after, logged_of, log_room}
 use Rattle.codes.specs.Coded.{coded_wrote_of}
@@ -202,12 +203,12 @@ logged-told s e room k h = after (read_of s).answer refl h
     roomed ok q false h = let z : length (log_of (graph_in s) (times_of e)) ≡ k = cc in record { taken = ok; fit = q; size = sym z }
 
     beside : IsAccepted s → (a : Answer) → judge_times (read_of s).graph e ≡ a → wrote_by a (length (log_of (graph_in s) (times_of e))) room ≡ Written k → Logged s e room k
-    beside ok answers.Accepted q h = roomed ok q (ltb room (length (log_of (graph_in s) (times_of e)))) h
-    beside ok (answers.Refused x) q h = absurd (let c : ◌≡◌ {A = ℕ} 0 1 = cc in omega arith)
+    beside ok (Ok _) q h = roomed ok q (ltb room (length (log_of (graph_in s) (times_of e)))) h
+    beside ok (Err x) q h = absurd (let c : ◌≡◌ {A = ℕ} 0 1 = cc in omega arith)
 
     after : (a : Answer) → (read_of s).answer ≡ a → logged_after a (read_of s).graph e room ≡ Written k → Logged s e room k
-    after answers.Accepted q h = beside q (judge_times (read_of s).graph e) refl h
-    after (answers.Refused x) q h = absurd (let c : ◌≡◌ {A = ℕ} 0 1 = cc in omega arith)
+    after (Ok _) q h = beside q (judge_times (read_of s).graph e) refl h
+    after (Err x) q h = absurd (let c : ◌≡◌ {A = ℕ} 0 1 = cc in omega arith)
 
 module _ {s e old new : List ℕ} {k : ℕ} (L : LogGives s e old (Written k) new) where
   logged : Logged s e (length old) k

@@ -29,14 +29,14 @@ use Rattle.model.proofs.Tests.{finished-tells}
 use Rattle.graph.specs.Model.{as_model, AcceptedGraph}
 use Rattle.graph.specs.Judge.{read_of}
 use Rattle.graph.specs.declared.Graph.{Graph}
-use Rattle.graph.specs.declared.Taken.{Taken}
-use Rattle.graph.specs.declared.Answer.TheVariants.{Accepted}
-use Rattle.reader.proofs.Laying.{read-accepted}
+use Rattle.graph.specs.Answer.{Taken}
+use Rattle.graph.specs.Answer.{Accepted}
+use Rattle.graph.proofs.Accepted as reader
 use Rattle.vset.specs.declared.Vset.{Vset}
 use Rattle.vset.specs.Members.{is_in, set_of}
 use Rattle.tick.specs.declared.Run.{Run}
-use Rattle.tick.specs.declared.Report.{Report}
-use Rattle.tick.specs.declared.Report.TheVariants.{Moved, Done, Refused as NoTick}
+use Rattle.tick.specs.Report.{Report}
+use Rattle.tick.specs.Report.{Moved, Done, Refused as NoTick}
 use Rattle.tick.specs.declared.Ticked.{Ticked}
 use Rattle.tick.specs.Run.{left_of, waiting_of, state_of, awaited, record_for, over, ticked_of}
 use Rattle.tick.specs.Suits.{SuitsBefore, NumbersRight, Suits, suits_before, suits}
@@ -50,7 +50,7 @@ use Rattle.leaps.specs.Leaps.{Fresh, record_at_of, until_of}
 use Rattle.leaps.proofs.Instants.{state-at, left-start, fresh_start}
 use Rattle.schedule.specs.Start.{started_on}
 use Rattle.schedule.specs.Tick.{tick_on_of}
-use Rattle.schedule.specs.declared.Started.{Started}
+use Rattle.schedule.specs.Start.{Started}
 use Rattle.schedule.proofs.Answers.{start-accepted, tick-accepted}
 use Rattle.schedule.proofs.TickByTick.{start-suits, next-suits}
 use Rattle.claims.specs.Claims.{Bytes, at_0, run_at}
@@ -89,7 +89,7 @@ ticked_before g b =
 
 module _ {s : List ℕ} {t : Taken} (bytes : Bytes s) (R : ReadGives s t) (ok : t.answer ≡ Accepted) where
   A : AcceptedGraph t.graph
-  A = read-accepted s (read-given R) bytes ok
+  A = rw (read-given R) (reader.taken s bytes (sym (ap (λ (z : Taken). z.answer) (read-given R)) ∙ ok))
 
   tick-on : {r : Run} {y : Ticked} → TickGives s r y → y ≡ tick_on_of t.graph r
   tick-on {r} h = tick-given h ∙ tick-accepted s t (read-given R) ok r

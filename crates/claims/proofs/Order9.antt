@@ -15,12 +15,12 @@ use Rattle.model.specs.Places.{pick}
 use Rattle.model.proofs.Bools.{cases, clash}
 use Rattle.graph.specs.Judge.{read_of}
 use Rattle.graph.specs.declared.Refusal.{Refusal}
-use Rattle.graph.specs.declared.Taken.{Taken}
-use Rattle.graph.specs.declared.Answer.TheVariants as answers
+use Rattle.graph.specs.Answer.{Taken}
+use Rattle.graph.specs.Answer as answers
 use Rattle.writer.specs.Lists.{Lists}
 use Rattle.writer.specs.Write.{wrote_by, room_by}
-use Rattle.writer.specs.declared.Wrote.{Wrote}
-use Rattle.writer.specs.declared.Wrote.TheVariants.{Bytes as Wrote-bytes, Refused}
+use Rattle.writer.specs.Wrote.{Wrote}
+use Rattle.writer.specs.Wrote.{Bytes as Wrote-bytes, Refused}
 use Rattle.stg_text.specs.Layout.{tasks, outside, fault_of, LIMIT}
 use Rattle.stg_text.specs.Says.{says}
 use Rattle.stg_text.specs.Canonical.{text_of}

@@ -1,4 +1,5 @@
 -- A run of an accepted file with times that fit, over what the entries' definitions say.
+use Rattle.std.specs.Prelude.{Ok, Err}
 use mathlib.Core.Path.{◌≡◌, refl, sym, ap, ◌∙◌}
 use mathlib.Core.Bool.{Bool, true, false}
 use mathlib.Core.List.{List, ◌++◌}
@@ -13,18 +14,18 @@ use Rattle.model.specs.ListSchedule.{steps}
 use Rattle.model.proofs.Tables.{table-length, table_at}
 use Rattle.graph.specs.Model.{as_model, AcceptedGraph}
 use Rattle.graph.specs.Judge.{read_of}
-use Rattle.graph.specs.declared.Answer.{Answer}
-use Rattle.graph.specs.declared.Answer.TheVariants.{Accepted, Refused}
+use Rattle.graph.specs.Answer.{Answer}
+use Rattle.graph.specs.Answer.{Accepted, Refused}
 use Rattle.graph.proofs.Accepted as reader
 use Rattle.units.specs.declared.Ticks.{Ticks}
-use Rattle.tick.specs.declared.Report.TheVariants.{Moved, Done}
+use Rattle.tick.specs.Report.{Moved, Done}
 use Rattle.times.specs.Times.{times_of, judge_times}
 use Rattle.schedule.specs.Start.{started_on, start_of}
 use Rattle.schedule.specs.Tick.{tick_on_of, tick_of}
 use Rattle.leaps.specs.Finishes.{finish_at, finish_of}
 use Rattle.schedule.specs.Whole.{play_in, play_beside, play_on_of, play_after, play_of, finishes_of}
-use Rattle.schedule.specs.declared.Played.{Played}
-use Rattle.schedule.specs.declared.Played.TheVariants.{Finish as Finished, Refused as NoRun}
+use Rattle.schedule.specs.Played.{Played}
+use Rattle.schedule.specs.Played.{Finish as Finished, Refused as NoRun}
 use Rattle.times.proofs.Fits.{times_fit}
 use Rattle.schedule.proofs.Answers.{start-accepted, tick-accepted}
 use Rattle.leaps.proofs.Finishes.{finish-of-vertex, finish-of-all}
@@ -75,18 +76,18 @@ unfolding play_of play_on_of play_in
 finish-told s e m F h = after (read_of s).answer refl h
   where
     beside : IsAccepted s → (a : Answer) → judge_times (read_of s).graph e ≡ a → play_beside a (read_of s).graph e m ≡ Finished F → Ran s e m F
-    beside ok Accepted q h = roomed (ltb m (read_of s).graph.n) refl h
+    beside ok (Ok _) q h = roomed (ltb m (read_of s).graph.n) refl h
       where
         roomed : (b : Bool) → ltb m (read_of s).graph.n ≡ b → ◌≡◌ {A = Played} (pick b (NoRun (record { number = 15; place = 0 })) (Finished (record { 0 = finish_of (graph_in s) (times_of e) }))) (Finished F) → Ran s e m F
         roomed true b h = absurd (let c : ◌≡◌ {A = ℕ} 0 1 = cc in omega arith)
         roomed false b h =
             let p : ◌≡◌ {A = Ticks} (record { 0 = finish_of (graph_in s) (times_of e) }) F = cc in
             record { is_accepted = ok; fit = q; room = ltb-false m (read_of s).graph.n b; finish = sym (ap (λ (t : Ticks). t.0) p) }
-    beside ok (Refused r) q h = absurd (let c : ◌≡◌ {A = ℕ} 0 1 = cc in omega arith)
+    beside ok (Err r) q h = absurd (let c : ◌≡◌ {A = ℕ} 0 1 = cc in omega arith)
 
     after : (a : Answer) → (read_of s).answer ≡ a → play_after a (read_of s).graph e m ≡ Finished F → Ran s e m F
-    after Accepted q h = beside q (judge_times (read_of s).graph e) refl h
-    after (Refused y) q h = absurd (let c : ◌≡◌ {A = ℕ} 0 1 = cc in omega arith)
+    after (Ok _) q h = beside q (judge_times (read_of s).graph e) refl h
+    after (Err y) q h = absurd (let c : ◌≡◌ {A = ℕ} 0 1 = cc in omega arith)
 
 -- the finish instants stand in the first N places, and the rest is kept
 pub run_lent : (s e old : List ℕ) (F : Ticks) → Bytes s → play_of s e (length old) ≡ Finished F → RunLent s e old (finishes_of s e old) F.0

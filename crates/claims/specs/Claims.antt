@@ -37,17 +37,17 @@ use Rattle.graph.specs.Model.{as_model}
 use Rattle.graph.specs.Rules.{holds, places, rule1, rule3}
 use Rattle.graph.specs.Judge.{read_of, Rightly}
 use Rattle.graph.specs.declared.Refusal.{Refusal}
-use Rattle.graph.specs.declared.Taken.{Taken}
-use Rattle.graph.specs.declared.Answer.TheVariants.{Accepted, Refused}
+use Rattle.graph.specs.Answer.{Taken}
+use Rattle.graph.specs.Answer.{Accepted, Refused}
 use Rattle.writer.specs.Lists.{Lists}
 use Rattle.writer.specs.Write.{file_of}
-use Rattle.writer.specs.declared.Wrote.{Wrote}
-use Rattle.writer.specs.declared.Wrote.TheVariants.{Bytes as Wrote-bytes, Refused as NotWritten}
+use Rattle.writer.specs.Wrote.{Wrote}
+use Rattle.writer.specs.Wrote.{Bytes as Wrote-bytes, Refused as NotWritten}
 use Rattle.mends.specs.Mended.{mended_of}
 use Rattle.mends.specs.Listed.{list_of}
 use Rattle.mends.specs.Answers.{unknown, Mendable}
-use Rattle.mends.specs.declared.Mended.{Mended}
-use Rattle.mends.specs.declared.Mended.TheVariants.{Lengths, Refused as NotMended}
+use Rattle.mends.specs.Answers.{Mended}
+use Rattle.mends.specs.Answers.{Lengths, Refused as NotMended}
 use Rattle.tick.specs.Run.{record_for}
 use Rattle.tick.specs.declared.Run.{Run}
 use Rattle.times.specs.Times.{times_of}

@@ -34,9 +34,9 @@
 --   LanesGives l n kind cores old new   `lanes::name`: the lent list from old to new, for the log l of n vertices with these kinds and cores
 use Rattle.std.specs.Prelude.{◌≡◌, List, ℕ}
 use Rattle.outcome.specs.Allows.{Allows}
-use Rattle.graph.specs.declared.Answer.{Answer}
+use Rattle.graph.specs.Answer.{Answer}
 use Rattle.graph.specs.declared.Graph.{Graph}
-use Rattle.graph.specs.declared.Taken.{Taken}
+use Rattle.graph.specs.Answer.{Taken, taken}
 use Rattle.reader.specs.contracts.read as read
 use Rattle.reader.proofs.read.Reads as read-reads
 use Rattle.reader.specs.contracts.take_rows as take-rows
@@ -44,19 +44,19 @@ use Rattle.reader.proofs.take_rows.Reads as take-rows-reads
 use Rattle.reader.specs.contracts.take_kin as take-kin
 use Rattle.reader.proofs.take_kin.Reads as take-kin-reads
 use Rattle.writer.specs.Lists.{Lists, lists}
-use Rattle.writer.specs.declared.Wrote.{Wrote}
+use Rattle.writer.specs.Wrote.{Wrote}
 use Rattle.writer.specs.contracts.write as write
 use Rattle.writer.proofs.write.Reads as write-reads
-use Rattle.bounds.specs.declared.Bounded.{Bounded}
-use Rattle.bounds.specs.declared.Pathed.{Pathed}
+use Rattle.bounds.specs.Bounded.{Bounded, bounded}
+use Rattle.bounds.specs.Pathed.{Pathed}
 use Rattle.bounds.specs.contracts.bounds as bounds
 use Rattle.bounds.proofs.bounds.Reads as bounds-reads
 use Rattle.bounds.specs.contracts.path as path
 use Rattle.bounds.proofs.path.Reads as path-reads
-use Rattle.second.specs.declared.Seconded.{Seconded}
+use Rattle.second.specs.Seconded.{Seconded, seconded}
 use Rattle.second.specs.contracts.second as second
 use Rattle.second.proofs.second.Reads as second_reads
-use Rattle.gains.specs.declared.Gained.{Gained}
+use Rattle.gains.specs.Gained.{Gained}
 use Rattle.gains.specs.contracts.gains as gains
 use Rattle.gains.proofs.gains.Reads as gains-reads
 use Rattle.gains.specs.contracts.gains_altered as gains-altered
@@ -70,10 +70,10 @@ use Rattle.ranks.specs.contracts.ranking as ranking
 use Rattle.ranks.proofs.ranking.Reads as ranking-reads
 use Rattle.tick.specs.declared.Run.{Run}
 use Rattle.tick.specs.Lists.{GraphOf}
-use Rattle.tick.specs.declared.Report.{Report}
+use Rattle.tick.specs.Report.{Report}
 use Rattle.tick.specs.declared.Ticked.{Ticked}
-use Rattle.schedule.specs.declared.Started.{Started}
-use Rattle.schedule.specs.declared.Played.{Played}
+use Rattle.schedule.specs.Start.{Started, started}
+use Rattle.schedule.specs.Played.{Played}
 use Rattle.schedule.specs.contracts.start as start
 use Rattle.schedule.proofs.start.Reads as start-reads
 use Rattle.schedule.specs.contracts.tick as tick
@@ -84,10 +84,10 @@ use Rattle.schedule.proofs.run.Reads as run-reads
 use Rattle.schedule.proofs.Outcomes.{tick_in_place_stated}
 use Rattle.leaps.specs.contracts.until as until
 use Rattle.leaps.proofs.until.Reads as until-reads
-use Rattle.late.specs.declared.Lateness.{Lateness}
+use Rattle.late.specs.Lateness.{Lateness, lateness}
 use Rattle.late.specs.contracts.late as late
 use Rattle.late.proofs.late.Reads as late-reads
-use Rattle.enough.specs.declared.Fewest.{Fewest}
+use Rattle.enough.specs.Fewest.{Fewest, fewest}
 use Rattle.enough.specs.contracts.enough as enough
 use Rattle.enough.proofs.enough.Reads as enough-reads
 use Rattle.boards.specs.declared.Point.{Point}
@@ -95,7 +95,7 @@ use Rattle.boards.specs.contracts.worse as worse
 use Rattle.boards.proofs.worse.Reads as worse-reads
 use Rattle.lanes.specs.contracts.name as lanes-name
 use Rattle.lanes.proofs.name.Reads as lanes-name-reads
-use Rattle.replay.specs.declared.Replayed.{Replayed}
+use Rattle.replay.specs.Replayed.{Replayed}
 use Rattle.replay.specs.contracts.replay as replay
 use Rattle.replay.proofs.replay.Reads as replay-reads
 use Rattle.logs.specs.contracts.log as log
@@ -104,7 +104,7 @@ use Rattle.stg.specs.contracts.read as stg-read
 use Rattle.stg.proofs.read.Reads as stg-read-reads
 use Rattle.stg_writer.specs.contracts.write as stg-write
 use Rattle.stg_writer.proofs.write.Reads as stg-write-reads
-use Rattle.mends.specs.declared.Mended.{Mended}
+use Rattle.mends.specs.Answers.{Mended}
 use Rattle.mend.specs.contracts.mend as mend
 use Rattle.mend.proofs.mend.Reads as mend-reads
 use Rattle.codes.specs.declared.PlannerGraph.{PlannerGraph}
@@ -156,7 +156,7 @@ use Rattle.planner.proofs.planner_mend.Reads as planner-mend-reads
 use Rattle.planner.proofs.Outcomes.{planner_tick_in_place_stated}
 
 abbrev pub ReadGives : List ℕ → Taken → Type 0
-ReadGives s t = Allows read.ended read-reads.Post (λ κs a r e. (a.0.now ≡ s) × (r ≡ t))
+ReadGives s t = Allows read.ended read-reads.Post (λ κs a r e. (a.0.now ≡ s) × (taken r ≡ t))
 
 abbrev pub WriteGives : Lists → List ℕ → Wrote → List ℕ → Type 0
 WriteGives g old w new =
@@ -164,10 +164,10 @@ WriteGives g old w new =
     (λ κs a r e. (lists a.0.now a.1.0.now a.1.1.0.now a.1.1.1.0.now ≡ g) × (a.1.1.1.1.0.now ≡ old) × (r ≡ w) × (e.1.1.1.1.0.now ≡ new))
 
 abbrev pub BoundsGives : List ℕ → Bounded → Type 0
-BoundsGives s b = Allows bounds.ended bounds-reads.Post (λ κs a r e. (a.0.now ≡ s) × (r ≡ b))
+BoundsGives s b = Allows bounds.ended bounds-reads.Post (λ κs a r e. (a.0.now ≡ s) × (bounded r ≡ b))
 
 abbrev pub SecondGives : List ℕ → Seconded → Type 0
-SecondGives s b = Allows second.ended second_reads.Post (λ κs a r e. (a.0.now ≡ s) × (r ≡ b))
+SecondGives s b = Allows second.ended second_reads.Post (λ κs a r e. (a.0.now ≡ s) × (seconded r ≡ b))
 
 abbrev pub PathGives : List ℕ → List ℕ → Pathed → List ℕ → Type 0
 PathGives s old p new =
@@ -183,7 +183,7 @@ AlteredGives s v x old g new =
     (λ κs a r e. (a.0.now ≡ s) × (a.1.0 ≡ v) × (a.1.1.0 ≡ x) × (a.1.1.1.0.now ≡ old) × (r ≡ g) × (e.1.1.1.0.now ≡ new))
 
 abbrev pub StartGives : List ℕ → List ℕ → Started → Type 0
-StartGives s e r = Allows start.ended start-reads.Post (λ κs a x w. (a.0.now ≡ s) × (a.1.0.now ≡ e) × (x ≡ r))
+StartGives s e r = Allows start.ended start-reads.Post (λ κs a x w. (a.0.now ≡ s) × (a.1.0.now ≡ e) × (started x ≡ r))
 
 abbrev pub TickGives : List ℕ → Run → Ticked → Type 0
 TickGives s r t = Allows tick.ended tick-reads.Post (λ κs a x e. (a.1.0.now ≡ s) × (a.0 ≡ r) × (x ≡ t))
@@ -197,19 +197,19 @@ RunGives s e old p new =
     Allows run.ended run-reads.Post (λ κs a r w. (a.0.now ≡ s) × (a.1.0.now ≡ e) × (a.1.1.0.now ≡ old) × (r ≡ p) × (w.1.1.0.now ≡ new))
 
 abbrev pub LateGives : List ℕ → List ℕ → ℕ → Lateness → Type 0
-LateGives s e d r = Allows late.ended late-reads.Post (λ κs a x w. (a.0.now ≡ s) × (a.1.0.now ≡ e) × (a.1.1.0 ≡ d) × (x ≡ r))
+LateGives s e d r = Allows late.ended late-reads.Post (λ κs a x w. (a.0.now ≡ s) × (a.1.0.now ≡ e) × (a.1.1.0 ≡ d) × (lateness x ≡ r))
 
 abbrev pub EnoughGives : List ℕ → ℕ → ℕ → Fewest → Type 0
-EnoughGives s k d r = Allows enough.ended enough-reads.Post (λ κs a x w. (a.0.now ≡ s) × (a.1.0 ≡ k) × (a.1.1.0 ≡ d) × (x ≡ r))
+EnoughGives s k d r = Allows enough.ended enough-reads.Post (λ κs a x w. (a.0.now ≡ s) × (a.1.0 ≡ k) × (a.1.1.0 ≡ d) × (fewest x ≡ r))
 
 abbrev pub RowsGives : List ℕ → Answer → List (List ℕ) → Type 0
 RowsGives s x p =
-    Allows take-rows.ended take-rows-reads.Post (λ κs b r e. (b.0.now ≡ s) × (r.answer ≡ x) × (e.1.1.1.1.1.1.1.0.now ≡ p))
+    Allows take-rows.ended take-rows-reads.Post (λ κs b r e. (b.0.now ≡ s) × (r ≡ x) × (e.1.0.now.pred ≡ p))
 
 abbrev pub KinGives : List ℕ → Answer → List (List ℕ) → List (List ℕ) → Type 0
 KinGives s x p a =
     Allows take-kin.ended take-kin-reads.Post
-    (λ κs b r e. (b.0.now ≡ s) × (r.answer ≡ x) × (e.1.1.1.1.1.1.1.0.now ≡ p) × (e.1.1.1.1.1.1.1.1.0.now ≡ a))
+    (λ κs b r e. (b.0.now ≡ s) × (r ≡ x) × (e.1.0.now.pred ≡ p) × (e.1.1.0.now ≡ a))
 
 abbrev pub WorseGives : Graph → Graph → Point → Type 0
 WorseGives g h p = Allows worse.ended worse-reads.Post (λ κs a r e. (a.0 ≡ g) × (a.1.0 ≡ h) × (r ≡ p))

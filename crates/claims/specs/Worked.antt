@@ -10,11 +10,11 @@ use Rattle.model.specs.Second.{NewB2}
 use Rattle.model.specs.Gain.{GainOf}
 use Rattle.model.specs.Ranking.{Ranking}
 use Rattle.graph.specs.Judge.{read_of}
-use Rattle.graph.specs.declared.Answer.{Answer}
-use Rattle.graph.specs.declared.Answer.TheVariants.{Refused}
+use Rattle.graph.specs.Answer.{Answer}
+use Rattle.graph.specs.Answer.{Refused}
 use Rattle.schedule.specs.Start.{start_of}
 use Rattle.schedule.specs.Whole.{play_of, finishes_of}
-use Rattle.schedule.specs.declared.Played.TheVariants.{Finish}
+use Rattle.schedule.specs.Played.{Finish}
 use Rattle.claims.specs.Claims.{IsAccepted, graph_in}
 
 -- the file's bounds in parts, NEW-B-1 in whole ticks, and its path; NEW-B-2 in parts; the gain of each vertex, and the vertices by gain; a whole run with these

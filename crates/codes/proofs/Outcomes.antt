@@ -3,8 +3,6 @@ use mathlib.Core.Path.{refl, sym, ◌∙◌}
 use Rattle.outcome.specs.OneOutcome.{OneOutcome}
 use Rattle.codes.specs.contracts.coded_graph as coded-graph
 use Rattle.codes.proofs.coded_graph.Reads as coded-graph-reads
-use Rattle.codes.specs.contracts.coded_wrote as coded-wrote
-use Rattle.codes.proofs.coded_wrote.Reads as coded-wrote-reads
 use Rattle.codes.specs.contracts.coded_mend as coded-mend
 use Rattle.codes.proofs.coded_mend.Reads as coded-mend-reads
 use Rattle.codes.specs.contracts.coded_bounds as coded-bounds
@@ -13,10 +11,6 @@ use Rattle.codes.specs.contracts.coded_second as coded-second
 use Rattle.codes.proofs.coded_second.Reads as coded-second-reads
 use Rattle.codes.specs.contracts.coded_enough as coded-enough
 use Rattle.codes.proofs.coded_enough.Reads as coded-enough-reads
-use Rattle.codes.specs.contracts.coded_gains as coded-gains
-use Rattle.codes.proofs.coded_gains.Reads as coded-gains-reads
-use Rattle.codes.specs.contracts.coded_path as coded-path
-use Rattle.codes.proofs.coded_path.Reads as coded-path-reads
 use Rattle.codes.specs.contracts.coded_late as coded-late
 use Rattle.codes.proofs.coded_late.Reads as coded-late-reads
 use Rattle.codes.specs.contracts.coded_start as coded-start
@@ -25,16 +19,13 @@ use Rattle.codes.specs.contracts.coded_report as coded-report
 use Rattle.codes.proofs.coded_report.Reads as coded-report-reads
 use Rattle.codes.specs.contracts.coded_tick as coded-tick
 use Rattle.codes.proofs.coded_tick.Reads as coded-tick-reads
-use Rattle.codes.specs.contracts.coded_play as coded-play
-use Rattle.codes.proofs.coded_play.Reads as coded-play-reads
-use Rattle.codes.specs.contracts.coded_replay as coded-replay
-use Rattle.codes.proofs.coded_replay.Reads as coded-replay-reads
+use Rattle.codes.specs.contracts.coded_count as coded-count
+use Rattle.codes.proofs.coded_count.Reads as coded-count-reads
+use Rattle.codes.specs.contracts.coded_finish as coded-finish
+use Rattle.codes.proofs.coded_finish.Reads as coded-finish-reads
 
 pub coded-graph-one : OneOutcome coded-graph.ended coded-graph-reads.Pre coded-graph-reads.Post
 coded-graph-one κs a r r' ws ws' pre p q = (p ∙ sym q, refl)
-
-pub coded-wrote-one : OneOutcome coded-wrote.ended coded-wrote-reads.Pre coded-wrote-reads.Post
-coded-wrote-one κs a r r' ws ws' pre p q = (p ∙ sym q, refl)
 
 pub coded-mend-one : OneOutcome coded-mend.ended coded-mend-reads.Pre coded-mend-reads.Post
 coded-mend-one κs a r r' ws ws' pre p q = (p ∙ sym q, refl)
@@ -48,12 +39,6 @@ coded-second-one κs a r r' ws ws' pre p q = (p ∙ sym q, refl)
 pub coded-enough-one : OneOutcome coded-enough.ended coded-enough-reads.Pre coded-enough-reads.Post
 coded-enough-one κs a r r' ws ws' pre p q = (p ∙ sym q, refl)
 
-pub coded-gains-one : OneOutcome coded-gains.ended coded-gains-reads.Pre coded-gains-reads.Post
-coded-gains-one κs a r r' ws ws' pre p q = (p ∙ sym q, refl)
-
-pub coded-path-one : OneOutcome coded-path.ended coded-path-reads.Pre coded-path-reads.Post
-coded-path-one κs a r r' ws ws' pre p q = (p ∙ sym q, refl)
-
 pub coded-late-one : OneOutcome coded-late.ended coded-late-reads.Pre coded-late-reads.Post
 coded-late-one κs a r r' ws ws' pre p q = (p ∙ sym q, refl)
 
@@ -66,8 +51,8 @@ coded-report-one κs a r r' ws ws' pre p q = (p ∙ sym q, refl)
 pub coded-tick-one : OneOutcome coded-tick.ended coded-tick-reads.Pre coded-tick-reads.Post
 coded-tick-one κs a r r' ws ws' pre p q = (p ∙ sym q, refl)
 
-pub coded-play-one : OneOutcome coded-play.ended coded-play-reads.Pre coded-play-reads.Post
-coded-play-one κs a r r' ws ws' pre p q = (p ∙ sym q, refl)
+pub coded-count-one : OneOutcome coded-count.ended coded-count-reads.Pre coded-count-reads.Post
+coded-count-one κs a r r' ws ws' pre p q = (p ∙ sym q, refl)
 
-pub coded-replay-one : OneOutcome coded-replay.ended coded-replay-reads.Pre coded-replay-reads.Post
-coded-replay-one κs a r r' ws ws' pre p q = (p ∙ sym q, refl)
+pub coded-finish-one : OneOutcome coded-finish.ended coded-finish-reads.Pre coded-finish-reads.Post
+coded-finish-one κs a r r' ws ws' pre p q = (p ∙ sym q, refl)

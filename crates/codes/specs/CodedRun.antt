@@ -1,22 +1,25 @@
 -- The answers of a run as C sees them.
 --
 --   coded_start_of, coded_play_of     the answers of `start` and `run`
+--   coded_finish_of r             a finish, or a refusal
 --   coded_report_of x             what a tick reports
 --   coded_tick_of                 the answer of `tick`
 --   coded_replay_of               the answer of `replay`
 --   coded_late_of                 the answer of `late`: yes is 1, no 0
 --   LateCoded s e d r         r is the coded answer of `late` for the file s, the times e and the tick d
-use Rattle.std.specs.Prelude.{◌≡◌, List, ℕ}
+use Rattle.std.specs.Prelude.{◌≡◌, List, ℕ, Result, Ok, Err}
+use Rattle.units.specs.declared.Ticks.{Ticks}
+use Rattle.graph.specs.declared.Refusal.{Refusal}
 use Rattle.model.specs.Places.{bit}
 use Rattle.graph.specs.Said.{of_answer}
 use Rattle.late.specs.Answers.{LateOf}
-use Rattle.late.specs.declared.Lateness.{Lateness}
-use Rattle.replay.specs.declared.Replayed.{Replayed}
+use Rattle.late.specs.Lateness.{Lateness}
+use Rattle.replay.specs.Replayed.{Replayed}
 use Rattle.replay.specs.Answers.{of_replayed}
-use Rattle.schedule.specs.declared.Started.{Started}
-use Rattle.schedule.specs.declared.Played.{Played}
+use Rattle.schedule.specs.Start.{Started}
+use Rattle.schedule.specs.Played.{Played}
 use Rattle.schedule.specs.Whole.{of_played}
-use Rattle.tick.specs.declared.Report.{Report}
+use Rattle.tick.specs.Report.{Report}
 use Rattle.tick.specs.Run.{of_report}
 use Rattle.tick.specs.declared.Ticked.{Ticked}
 use Rattle.codes.specs.declared.PlannerRun.{PlannerRun}
@@ -38,6 +41,11 @@ coded_tick_of t = record {
   moved = (coded_report_of t.report).moved;
   run = t.run;
 }
+
+-- the finish of a run, or of a log that is replayed
+abbrev pub coded_finish_of : Result Ticks Refusal → PlannerFinish
+coded_finish_of (Ok t) = record { number = 0; place = 0; finish = t.0 }
+coded_finish_of (Err r) = record { number = r.number; place = r.place; finish = 0 }
 
 abbrev pub coded_play_of : Played → PlannerFinish
 coded_play_of p = record { number = (of_played p).number; place = (of_played p).place; finish = (of_played p).value }

@@ -3,22 +3,23 @@
 #![tactic(auto)]
 
 ghost use Rattle.std.specs.Prelude.{◌≡◌};
-ghost use Rattle.model.specs.Places.{bit};
-ghost use Rattle.graph.specs.Said.{of_answer};
-ghost use Rattle.codes.specs.Coded.{coded_graph_of, coded_wrote_of, coded_mend_of, coded_path_of, coded_gains_of, coded_bounds_of, coded_second_of, coded_enough_of};
-ghost use Rattle.codes.specs.CodedRun.{coded_start_of, coded_report_of, coded_tick_of, coded_play_of, coded_late_of, coded_replay_of};
+ghost use Rattle.graph.specs.Answer.{taken};
+ghost use Rattle.graph.specs.File.{no_graph_of};
+ghost use Rattle.bounds.specs.Bounded.{bounded};
+ghost use Rattle.second.specs.Seconded.{seconded};
+ghost use Rattle.enough.specs.Fewest.{fewest};
+ghost use Rattle.schedule.specs.Start.{no_run, started};
+ghost use Rattle.late.specs.Lateness.{lateness};
+ghost use Rattle.codes.specs.Coded.{with_graph, coded_graph_of, coded_count_of, coded_mend_of, coded_bounds_of, coded_second_of, coded_enough_of};
+ghost use Rattle.codes.specs.CodedRun.{coded_start_of, coded_report_of, coded_tick_of, coded_finish_of, coded_late_of};
 
-use bounds::{Bounded, Pathed};
-use enough::Fewest;
-use gains::Gained;
-use graph::{Answer, Graph, Taken};
-use late::Lateness;
-use mends::Mended;
-use replay::Replayed;
-use schedule::{Played, Started};
-use second::Seconded;
-use tick::{Report, Run, Ticked};
-use writer::Wrote;
+use bounds::BothBounds;
+use graph::{Graph, Refusal};
+use late::Ending;
+use mends::Sizes;
+use tick::{Run, Step, Ticked};
+use units::{Parts, Ticks};
+use vset::Vset;
 
 // The graph of a file; zero throughout beside a refusal.
 #[repr(C)]
@@ -124,170 +125,179 @@ pub struct PlannerLate {
     pub played: u64,
 }
 
-fn number(answer: Answer) -> u32
-    ensures { result ≡ (of_answer answer).number }
+// What stands beside a refusal.
+fn no_graph() -> Graph
+    ensures { result ≡ no_graph_of }
+{
+    Graph {
+        kinds: 0,
+        n: 0,
+        edges: 0,
+        cores: [0; 10],
+        kind: [0; 128],
+        wcet: [0; 128],
+        edge: [0; 1024],
+    }
+}
+
+fn no_run() -> Run
+    ensures { result ≡ no_run }
+{
+    Run {
+        n: 0,
+        instant: 0,
+        left: [0; 128],
+        ran: Vset { lo: 0, hi: 0 },
+        waiting: [0; 128],
+    }
+}
+
+// A graph that was laid, or what stands beside a refusal. The function stands by itself on the stack, and the graph is lent: each is 2.8 KB
+// of the caller's.
+#[inline(never)]
+pub fn coded_graph(answer: Result<(), Refusal>, graph: &Graph) -> PlannerGraph
+    ensures { result ≡ coded_graph_of (taken (with_graph answer graph.now)) }
 {
     match answer {
-        Answer::Accepted => 0,
-        Answer::Refused(refusal) => refusal.number,
-    }
-}
-
-fn place(answer: Answer) -> u32
-    ensures { result ≡ (of_answer answer).place }
-{
-    match answer {
-        Answer::Accepted => 0,
-        Answer::Refused(refusal) => refusal.place,
-    }
-}
-
-pub fn coded_graph(taken: Taken) -> PlannerGraph
-    ensures { result ≡ coded_graph_of taken }
-{
-    let answer = taken.answer;
-    let graph = taken.graph;
-    PlannerGraph {
-        number: number(answer),
-        place: place(answer),
-        graph,
-    }
-}
-
-pub fn coded_wrote(wrote: Wrote) -> PlannerCount
-    ensures { result ≡ coded_wrote_of wrote }
-{
-    match wrote {
-        Wrote::Bytes(size) => PlannerCount {
+        Ok(()) => PlannerGraph {
             number: 0,
             place: 0,
-            count: size as u64,
+            graph: *graph,
         },
-        Wrote::Refused(refusal) => PlannerCount {
-            number: refusal.number,
-            place: refusal.place,
+        Err(r) => PlannerGraph {
+            number: r.number,
+            place: r.place,
+            graph: no_graph(),
+        },
+    }
+}
+
+// Whatever is counted: the bytes of a file, of a log or of a text, the vertices of a path or the gains.
+pub fn coded_count(counted: Result<usize, Refusal>) -> PlannerCount
+    ensures { result ≡ coded_count_of counted }
+{
+    match counted {
+        Ok(n) => PlannerCount {
+            number: 0,
+            place: 0,
+            count: n as u64,
+        },
+        Err(r) => PlannerCount {
+            number: r.number,
+            place: r.place,
             count: 0,
         },
     }
 }
 
-pub fn coded_mend(mended: Mended) -> PlannerMended
+pub fn coded_mend(mended: Result<Sizes, Refusal>) -> PlannerMended
     ensures { result ≡ coded_mend_of mended }
 {
     match mended {
-        Mended::Lengths(sizes) => PlannerMended {
+        Ok(sizes) => PlannerMended {
             number: 0,
             place: 0,
             file: sizes.file as u64,
             list: sizes.list as u64,
         },
-        Mended::Refused(refusal) => PlannerMended {
-            number: refusal.number,
-            place: refusal.place,
+        Err(r) => PlannerMended {
+            number: r.number,
+            place: r.place,
             file: 0,
             list: 0,
         },
     }
 }
 
-pub fn coded_bounds(bounded: Bounded) -> PlannerBounds
-    ensures { result ≡ coded_bounds_of bounded }
+pub fn coded_bounds(bounds: Result<BothBounds, Refusal>) -> PlannerBounds
+    ensures { result ≡ coded_bounds_of (bounded bounds) }
 {
-    let answer = bounded.answer;
-    PlannerBounds {
-        number: number(answer),
-        place: place(answer),
-        old: bounded.old.0,
-        new: bounded.new.0,
-        ticks: bounded.ticks.0,
-    }
-}
-
-pub fn coded_second(seconded: Seconded) -> PlannerSecond
-    ensures { result ≡ coded_second_of seconded }
-{
-    let answer = seconded.answer;
-    PlannerSecond {
-        number: number(answer),
-        place: place(answer),
-        parts: seconded.parts.0,
-    }
-}
-
-pub fn coded_enough(fewest: Fewest) -> PlannerEnough
-    ensures { result ≡ coded_enough_of fewest }
-{
-    let answer = fewest.answer;
-    PlannerEnough {
-        number: number(answer),
-        place: place(answer),
-        cores: fewest.cores as u64,
-    }
-}
-
-pub fn coded_path(pathed: Pathed) -> PlannerCount
-    ensures { result ≡ coded_path_of pathed }
-{
-    match pathed {
-        Pathed::Vertices(n) => PlannerCount {
+    match bounds {
+        Ok(b) => PlannerBounds {
             number: 0,
             place: 0,
-            count: n as u64,
+            old: b.old.0,
+            new: b.new.0,
+            ticks: b.ticks.0,
         },
-        Pathed::Refused(refusal) => PlannerCount {
-            number: refusal.number,
-            place: refusal.place,
-            count: 0,
+        Err(r) => PlannerBounds {
+            number: r.number,
+            place: r.place,
+            old: 0,
+            new: 0,
+            ticks: 0,
         },
     }
 }
 
-pub fn coded_gains(gained: Gained) -> PlannerCount
-    ensures { result ≡ coded_gains_of gained }
+pub fn coded_second(second: Result<Parts, Refusal>) -> PlannerSecond
+    ensures { result ≡ coded_second_of (seconded second) }
 {
-    match gained {
-        Gained::Vertices(n) => PlannerCount {
+    match second {
+        Ok(parts) => PlannerSecond {
             number: 0,
             place: 0,
-            count: n as u64,
+            parts: parts.0,
         },
-        Gained::Refused(refusal) => PlannerCount {
-            number: refusal.number,
-            place: refusal.place,
-            count: 0,
+        Err(r) => PlannerSecond {
+            number: r.number,
+            place: r.place,
+            parts: 0,
         },
     }
 }
 
-pub fn coded_start(started: Started) -> PlannerRun
-    ensures { result ≡ coded_start_of started }
+pub fn coded_enough(enough: Result<u8, Refusal>) -> PlannerEnough
+    ensures { result ≡ coded_enough_of (fewest enough) }
 {
-    let answer = started.answer;
-    let run = started.run;
-    PlannerRun {
-        number: number(answer),
-        place: place(answer),
-        run,
+    match enough {
+        Ok(cores) => PlannerEnough {
+            number: 0,
+            place: 0,
+            cores: cores as u64,
+        },
+        Err(r) => PlannerEnough {
+            number: r.number,
+            place: r.place,
+            cores: 0,
+        },
     }
 }
 
-pub fn coded_report(report: Report) -> PlannerMoved
+pub fn coded_start(start: Result<Run, Refusal>) -> PlannerRun
+    ensures { result ≡ coded_start_of (started start) }
+{
+    match start {
+        Ok(run) => PlannerRun {
+            number: 0,
+            place: 0,
+            run,
+        },
+        Err(r) => PlannerRun {
+            number: r.number,
+            place: r.place,
+            run: no_run(),
+        },
+    }
+}
+
+pub fn coded_report(report: Result<Step, Refusal>) -> PlannerMoved
     ensures { result ≡ coded_report_of report }
 {
     match report {
-        Report::Moved => PlannerMoved {
+        Ok(Step::Moved) => PlannerMoved {
             number: 0,
             place: 0,
             moved: 1,
         },
-        Report::Done => PlannerMoved {
+        Ok(Step::Done) => PlannerMoved {
             number: 0,
             place: 0,
             moved: 0,
         },
-        Report::Refused(refusal) => PlannerMoved {
-            number: refusal.number,
-            place: refusal.place,
+        Err(r) => PlannerMoved {
+            number: r.number,
+            place: r.place,
             moved: 0,
         },
     }
@@ -296,64 +306,47 @@ pub fn coded_report(report: Report) -> PlannerMoved
 pub fn coded_tick(ticked: Ticked) -> PlannerTick
     ensures { result ≡ coded_tick_of ticked }
 {
-    let run = ticked.run;
-    let report = ticked.report;
-    let said = coded_report(report);
+    let said = coded_report(ticked.report);
     PlannerTick {
         number: said.number,
         place: said.place,
         moved: said.moved,
-        run,
+        run: ticked.run,
     }
 }
 
-fn one(on: bool) -> u64
-    ensures { result ≡ bit on }
+pub fn coded_late(late: Result<Ending, Refusal>) -> PlannerLate
+    ensures { result ≡ coded_late_of (lateness late) }
 {
-    if on { 1 } else { 0 }
-}
-
-pub fn coded_late(lateness: Lateness) -> PlannerLate
-    ensures { result ≡ coded_late_of lateness }
-{
-    let answer = lateness.answer;
-    PlannerLate {
-        number: number(answer),
-        place: place(answer),
-        yes: one(lateness.yes),
-        played: lateness.played.0,
-    }
-}
-
-pub fn coded_play(played: Played) -> PlannerFinish
-    ensures { result ≡ coded_play_of played }
-{
-    match played {
-        Played::Finish(finish) => PlannerFinish {
+    match late {
+        Ok(ending) => PlannerLate {
             number: 0,
             place: 0,
-            finish: finish.0,
+            yes: u64::from(ending.yes),
+            played: ending.played.0,
         },
-        Played::Refused(refusal) => PlannerFinish {
-            number: refusal.number,
-            place: refusal.place,
-            finish: 0,
+        Err(r) => PlannerLate {
+            number: r.number,
+            place: r.place,
+            yes: 0,
+            played: 0,
         },
     }
 }
 
-pub fn coded_replay(replayed: Replayed) -> PlannerFinish
-    ensures { result ≡ coded_replay_of replayed }
+// The finish of a run, or of a log that is replayed.
+pub fn coded_finish(finish: Result<Ticks, Refusal>) -> PlannerFinish
+    ensures { result ≡ coded_finish_of finish }
 {
-    match replayed {
-        Replayed::Finish(last) => PlannerFinish {
+    match finish {
+        Ok(ticks) => PlannerFinish {
             number: 0,
             place: 0,
-            finish: last.0,
+            finish: ticks.0,
         },
-        Replayed::Refused(refusal) => PlannerFinish {
-            number: refusal.number,
-            place: refusal.place,
+        Err(r) => PlannerFinish {
+            number: r.number,
+            place: r.place,
             finish: 0,
         },
     }

@@ -22,13 +22,11 @@ fn unled(waiting: &[u8; 128], n: usize, order: &mut [u8; 128]) -> usize
     ensures { Unled waiting.now n order.new result }
 {
     let mut found: usize = 0;
-    let mut v: usize = 0;
-    while v < n {
+    for v in 0..n {
         if waiting[v] == 0 {
             order[found] = v as u8;
             found += 1;
         }
-        v += 1;
     }
     found
 }
@@ -50,8 +48,7 @@ fn tell(
     ensures { Told edge.now start end waiting.old order.old found waiting.new order.new result }
 {
     let mut all = found;
-    let mut i = start as usize;
-    while i < end as usize {
+    for i in start as usize..end as usize {
         let v = starts::to(edge[i]);
         let rest = waiting[v] - 1;
         waiting[v] = rest;
@@ -59,7 +56,6 @@ fn tell(
             order[all] = v as u8;
             all += 1;
         }
-        i += 1;
     }
     all
 }
@@ -78,6 +74,7 @@ fn take_up(
 {
     let mut found = first;
     let mut told: usize = 0;
+    // The line grows while it is walked, so that its end isn't known before.
     while told < found {
         let u = order[told] as usize;
         found = tell(edge, starts[u], starts[u + 1], waiting, order, found);

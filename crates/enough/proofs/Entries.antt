@@ -1,16 +1,17 @@
 -- From what the search left to the answer for a graph g, and from what the reader took of a file f to the entry's answer.
-use mathlib.Core.Path.{◌≡◌, sym, ◌∙◌}
+use Rattle.std.specs.Prelude.{Result, Err}
+use mathlib.Core.Path.{◌≡◌, refl, sym}
 use mathlib.Core.List.{List}
 use Prim.Native.Nat.{ℕ, ◌≤◌, ◌<◌}
 use Rattle.graph.specs.Model.{as_model}
 use Rattle.graph.specs.declared.Graph.{Graph}
 use Rattle.graph.specs.declared.Refusal.{Refusal}
-use Rattle.graph.specs.declared.Answer.TheVariants.{Accepted, Refused}
-use Rattle.reader.specs.Laid.{graph_in, TakenInto}
-use Rattle.reader.specs.declared.Header.{Header}
+use Rattle.graph.specs.Answer.{Accepted, Refused}
+use Rattle.reader.specs.Laid.{TakenInto}
+use Rattle.reader.specs.declared.Laid.{Laid}
 use Rattle.enough.specs.Answers.{undeclared, unmet, EnoughIn, no_kind, none, found, EnoughOf, refused, accepted}
 use Rattle.enough.specs.Halving.{Between}
-use Rattle.enough.specs.declared.Fewest.{Fewest}
+use Rattle.enough.specs.Fewest.{Fewest, fewest}
 use Rattle.enough.proofs.Halving.{one_left, none_left}
 
 module _ (g : Graph) {s d : ℕ} {r : Fewest} where
@@ -27,9 +28,9 @@ module _ (g : Graph) {s d : ℕ} {r : Fewest} where
     unfolding as_model
     of-found l a e = found known a (rw e (one_left B l))
 
-module _ (f : List ℕ) {h : Header} {c k w e st o : List ℕ} (T : TakenInto f h c k w e st o) {s d : ℕ} (r : Fewest) where
-  pub enough-accepted : h.answer ≡ Accepted → EnoughIn (as_model (graph_in h c k w e)) s d r → EnoughOf f s d r
-  enough-accepted p x = let a = sym T.answer ∙ p in accepted a (rw (T.laid a).graph at x)
+module _ {f : List ℕ} {l : Laid} {s d : ℕ} where
+  pub enough-accepted : (r : Result ℕ Refusal) → TakenInto f Accepted l → EnoughIn (as_model l.graph) s d (fewest r) → EnoughOf f s d (fewest r)
+  enough-accepted r T x = let a = sym T.answer in accepted a (rw (T.laid a).graph at x)
 
-  pub enough-refused : {x : Refusal} → h.answer ≡ Refused x → r.answer ≡ Refused x → r.cores ≡ 0 → EnoughOf f s d r
-  enough-refused p q z = refused (sym T.answer ∙ p) q z
+  pub enough-refused : {x : Refusal} → TakenInto f (Refused x) l → EnoughOf f s d (fewest (Err x))
+  enough-refused T = refused (sym T.answer) refl refl

@@ -8,9 +8,9 @@ use Rattle.model.specs.Graph.{Graph}
 use Rattle.graph.specs.Model.{as_model}
 use Rattle.graph.specs.Judge.{read_of}
 use Rattle.graph.specs.declared.Refusal.{Refusal}
-use Rattle.graph.specs.declared.Answer.TheVariants.{Accepted, Refused}
+use Rattle.graph.specs.Answer.{Accepted, Refused}
 use Rattle.enough.specs.Answers.{Meets, NoneMeets, Smallest, undeclared, unmet, EnoughIn, no_kind, none, found, EnoughOf, refused, accepted}
-use Rattle.enough.specs.declared.Fewest.{Fewest}
+use Rattle.enough.specs.Fewest.{Fewest}
 
 apart : Refused unmet ≡ Refused undeclared → ⊥
 apart e = let q : unmet ≡ undeclared = cc in let c = ap (λ (x : Refusal). x.number) q in omega arith

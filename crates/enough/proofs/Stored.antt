@@ -1,6 +1,5 @@
--- The lists of an accepted graph with another number of cores of one type stored: those of an accepted graph again.
+-- An accepted graph as it was laid, with another number of cores of one type stored: an accepted graph again.
 use mathlib.Core.Path.{◌≡◌, ap, fun_ext}
-use mathlib.Core.List.{List}
 use mathlib.Core.Logic.{◌⊎◌, inl, inr}
 use Prim.Native.Nat.{ℕ, ◌≤◌, ◌<◌}
 use native.Mathlib.Omega.{arith}
@@ -12,37 +11,40 @@ use Rattle.model.proofs.Bools.{le-or-lt}
 use Rattle.model.proofs.Turns.{put-at}
 use Rattle.model.proofs.Changes.{cores_well, cores-acyclic}
 use Rattle.graph.specs.Model.{AcceptedGraph, as_model, from, to, joins}
-use Rattle.reader.specs.Laid.{graph_in, Usable}
-use Rattle.reader.specs.declared.Header.{Header}
+use Rattle.reader.specs.Laid.{Usable, on_cores}
+use Rattle.reader.specs.declared.Laid.{Laid}
 
-module _ {h : Header} {c k w e st o : List ℕ} (R : Usable h c k w e st o) (s m : ℕ) (known : s < h.kinds) where
+module _ {l : Laid} (R : Usable l) (s m : ℕ) (known : s < l.graph.kinds) where
   -- a kind that has cores has a place in the list
-  place : s < length c
+  place : s < length l.graph.cores
   unfolding as_model
-  place = go (le-or-lt (length c) s)
+  place = go (le-or-lt (length l.graph.cores) s)
     where
-      go : (length c ≤ s) ⊎ (s < length c) → s < length c
-      go (inl l) = absurd (omega (arith, R.accepted.well_formed.some_core s known, get_or-eq_default c 0 l))
-      go (inr l) = l
+      go : (length l.graph.cores ≤ s) ⊎ (s < length l.graph.cores) → s < length l.graph.cores
+      go (inl k) = absurd (omega (arith, R.accepted.well_formed.some_core s known, get_or-eq_default l.graph.cores 0 k))
+      go (inr k) = k
 
-  at : (r : ℕ) → get_or (set c s m) r 0 ≡ pick (eqb r s) m (get_or c r 0)
-  at r = put-at c s m r place
+  at : (r : ℕ) → get_or (set l.graph.cores s m) r 0 ≡ pick (eqb r s) m (get_or l.graph.cores r 0)
+  at r = put-at l.graph.cores s m r place
+
+  abbrev stored : Laid
+  stored = on_cores l (set l.graph.cores s m)
 
   -- THEOREM. It is the graph with so many cores of this type, all else as declared.
-  pub stored_model : as_model (graph_in h (set c s m) k w e) ≡ with_cores (as_model (graph_in h c k w e)) s m
+  pub stored_model : as_model stored.graph ≡ with_cores (as_model l.graph) s m
   unfolding as_model joins from to
   stored_model =
       ap (λ (f : ℕ → ℕ). record {
-        n = h.n;
-        kinds = h.kinds;
-        kind = λ u. get_or k u 0;
+        n = l.graph.n;
+        kinds = l.graph.kinds;
+        kind = λ u. get_or l.graph.kind u 0;
         cores = f;
-        wcet = λ u. get_or w u 0;
-        edge = (as_model (graph_in h c k w e)).edge;
+        wcet = λ u. get_or l.graph.wcet u 0;
+        edge = (as_model l.graph).edge;
       }) (fun_ext at)
 
   -- THEOREM. It is accepted again, from 1 to 16 cores.
-  pub stored_usable : 1 ≤ m → m ≤ 16 → Usable h (set c s m) k w e st o
+  pub stored_usable : 1 ≤ m → m ≤ 16 → Usable stored
   unfolding as_model joins from to
   stored_usable some few = record {
     accepted = record {
@@ -50,7 +52,7 @@ module _ {h : Header} {c k w e st o : List ℕ} (R : Usable h c k w e st o) (s m
       some_vertex = A.some_vertex;
       few_vertices = A.few_vertices;
       few_edges = A.few_edges;
-      well_formed = rw stored_model (cores_well A.well_formed s m (λ l. omega arith) few);
+      well_formed = rw stored_model (cores_well A.well_formed s m (λ k. omega arith) few);
       acyclic = rw stored_model (cores-acyclic A.acyclic s m);
       short = A.short;
       from_known = A.from_known;
@@ -60,7 +62,8 @@ module _ {h : Header} {c k w e st o : List ℕ} (R : Usable h c k w e st o) (s m
       wcet_past = A.wcet_past;
     };
     along = record { starts = R.along.starts; order = R.along.order };
+    rows = R.rows;
   }
     where
-      A : AcceptedGraph (graph_in h c k w e)
+      A : AcceptedGraph l.graph
       A = R.accepted

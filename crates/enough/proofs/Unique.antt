@@ -1,11 +1,14 @@
 -- What the entry promises leaves one choice only.
-use mathlib.Core.Path.{◌≡◌, sym, ◌∙◌}
+use Rattle.std.specs.Prelude.{Result, Ok, Err}
+use mathlib.Core.Path.{◌≡◌, sym, ap, ◌∙◌}
 use mathlib.Core.List.{List}
 use Prim.Native.Nat.{ℕ}
 use native.Mathlib.Omega.{arith}
 use Rattle.model.specs.Graph.{Graph}
 use Rattle.enough.specs.Answers.{EnoughIn, no_kind, none, found, EnoughOf, refused, accepted}
-use Rattle.enough.specs.declared.Fewest.{Fewest}
+use Rattle.graph.specs.Answer.{Accepted, Refused}
+use Rattle.graph.specs.declared.Refusal.{Refusal}
+use Rattle.enough.specs.Fewest.{Fewest, fewest}
 use Rattle.enough.proofs.Meeting.{smallest_unique}
 
 -- the answer and the number are all that there is
@@ -28,3 +31,10 @@ enough-of_unique r r' (refused e a z) (refused c b y) = fewest-same r r' (a ∙ 
 enough-of_unique r r' (refused e a z) (accepted c y) = absurd (let z : ◌≡◌ {A = ℕ} 0 1 = cc in omega arith)
 enough-of_unique r r' (accepted e x) (refused c b y) = absurd (let z : ◌≡◌ {A = ℕ} 0 1 = cc in omega arith)
 enough-of_unique r r' (accepted e x) (accepted c y) = enough_in_unique r r' x y
+
+-- what `enough` gives is told by its answer and what stands beside it
+pub fewest-one : (x y : Result ℕ Refusal) → fewest x ≡ fewest y → x ≡ y
+fewest-one (Ok c) (Ok d) e = ap Ok (ap (λ (t : Fewest). t.cores) e)
+fewest-one (Ok c) (Err r) e = let q : Accepted ≡ Refused r = ap (λ (t : Fewest). t.answer) e in cc
+fewest-one (Err r) (Ok c) e = let q : Refused r ≡ Accepted = ap (λ (t : Fewest). t.answer) e in cc
+fewest-one (Err r) (Err q) e = let z : Refused r ≡ Refused q = ap (λ (t : Fewest). t.answer) e in cc

@@ -17,8 +17,8 @@ use Rattle.model.specs.Better.{with_cores}
 use Rattle.graph.specs.Model.{as_model}
 use Rattle.graph.specs.Judge.{read_of}
 use Rattle.graph.specs.declared.Refusal.{Refusal}
-use Rattle.graph.specs.declared.Answer.TheVariants.{Accepted, Refused}
-use Rattle.enough.specs.declared.Fewest.{Fewest}
+use Rattle.graph.specs.Answer.{Accepted, Refused}
+use Rattle.enough.specs.Fewest.{Fewest}
 
 pub record Meets (G : Graph) (s d m : ℕ) : Type 0 where
   pub new : ℕ

@@ -1,5 +1,4 @@
--- What the code tests is what is wrong:
+-- What the code tests is what a text gets wrong:
 pub mod Lines
-pub mod Tests
 -- The public functions' contracts leave one outcome:
 pub mod Outcomes

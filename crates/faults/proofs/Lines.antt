@@ -13,6 +13,9 @@ use Rattle.model.proofs.Places.{first-at, first-none, first_below, first-here}
 use mathlib.Core.Logic.{◌⊎◌, inl, inr}
 use Rattle.model.proofs.Bools.{both, or_right, le-or-lt}
 use Rattle.texts.specs.Text.{byte_at, stops, until, line_after}
+use Rattle.std.specs.Prelude.{Err}
+use Rattle.texts.specs.declared.Sought.TheVariants.{Line}
+use Rattle.faults.specs.declared.Wrong.TheVariants.{LineLong}
 use Rattle.faults.specs.Faults.{fault, fine, begins, long_line, line_fault}
 
 -- a pass that stands at `at`: a line begins there, unless the text ends, and no line before is too long
@@ -27,23 +30,21 @@ passing-none t = record { inside = omega arith; start = λ l. refl; short = λ k
 module _ (t : List ℕ) (at : ℕ) (here : at < length t) where
   -- no line begins within the line at `at`
   pub within-line : (k : ℕ) → at < k → k < line_after t at → begins t k ≡ false
-  unfolding stops
   within-line k l m =
-      let p : ℕ → Bool = λ j. stops 0 (byte_at t (at + j)) in
+      let p : ℕ → Bool = λ j. stops Line (byte_at t (at + j)) in
       let q : at + (k - 1 - at) ≡ k - 1 = omega arith in
       let b : eqb (byte_at t (at + (k - 1 - at))) 10 ≡ false = first_below p (length t - at) (k - 1 - at) (omega arith) in
       rw (ne_eqb k 0 (λ z. omega arith)) (rw q at b)
 
   pub next-begins : line_after t at < length t → begins t (line_after t at) ≡ true
-  unfolding stops
   next-begins l =
-      let p : ℕ → Bool = λ j. stops 0 (byte_at t (at + j)) in
+      let p : ℕ → Bool = λ j. stops Line (byte_at t (at + j)) in
       let f : ℕ = first p (length t - at) in
       let q : at + f ≡ line_after t at - 1 = omega arith in
       let b : eqb (byte_at t (at + f)) 10 ≡ true = first-here p (length t - at) (omega arith) in
       or_right (eqb (line_after t at) 0) _ (rw q at b)
 
-  pub passing-more : Passing t at → ltb 4096 (until 0 t at - at) ≡ false → (i : ℕ) → i ≡ line_after t at → Passing t i
+  pub passing-more : Passing t at → ltb 4096 (until Line t at - at) ≡ false → (i : ℕ) → i ≡ line_after t at → Passing t i
   passing-more p e i q = rw q (record {
     inside = omega arith;
     start = next-begins;
@@ -62,7 +63,7 @@ module _ (t : List ℕ) (at : ℕ) (here : at < length t) where
           later (inl h) = rw (within-line k (omega arith) l) refl
           later (inr h) = p.short k h
 
-  pub long-here : Passing t at → ltb 4096 (until 0 t at - at) ≡ true → fault 3 at ≡ line_fault t
+  pub long-here : Passing t at → ltb 4096 (until Line t at - at) ≡ true → Err (fault LineLong at) ≡ line_fault t
   unfolding line_fault
   long-here p e =
       let f : first (long_line t) (length t) ≡ at = first-at (long_line t) (length t) at here p.short (both (begins t at) _ (p.start here) e) in

@@ -1,175 +1,184 @@
-// What a text gets wrong (docs/BOARD.md): the rows that say it, and the tests for a text as such, its numbers and its names.
+// What a text gets wrong (docs/BOARD.md), and the tests for a text as such, its numbers and its names.
 #![tactic(auto)]
 
 ghost use Rattle.std.specs.Prelude.{◌≡◌, ◌-◌, ltb};
+ghost use Rattle.texts.specs.declared.Sought.TheVariants.{Line};
 ghost use Rattle.texts.specs.Text.{until};
-ghost use Rattle.faults.specs.Faults.{line_fault, text_fault, number_fault, name_fault, alone_fault, stage_fault};
+ghost use Rattle.faults.specs.Faults.{wrong_number, line_fault, text_fault, number_fault, name_fault, alone_fault, stage_fault};
 
-// The rows, in the order in which they are said.
-pub const FINE: usize = 0;
+use texts::{NumberError, Sought};
 
-pub const TEXT_LONG: usize = 1;
+// What is wrong.
+#[derive(Clone, Copy, Debug, PartialEq, Eq)]
+pub enum Wrong {
+    TextLong,
+    Strange,
+    LineLong,
+    NameLong,
+    KindTwice,
+    StageTwice,
+    KindMany,
+    StageMany,
+    Missing,
+    Extra,
+    NoNumber,
+    Large,
+    NoKind,
+    NoStage,
+    WaitTwice,
+    WaitMany,
+    TimeTwice,
+    Cores,
+    Wcet,
+    Itself,
+    Cycle,
+    Time,
+    KindsNone,
+    StagesNone,
+    Absent,
+}
 
-pub const STRANGE: usize = 2;
+impl From<NumberError> for Wrong {
+    ghost from_gives = { λ e w. w ≡ wrong_number e };
 
-pub const LINE_LONG: usize = 3;
+    fn from(e: NumberError) -> Wrong {
+        match e {
+            NumberError::NotDigits => Wrong::NoNumber,
+            NumberError::TooLarge => Wrong::Large,
+        }
+    }
+}
 
-pub const NAME_LONG: usize = 4;
-
-pub const KIND_TWICE: usize = 5;
-
-pub const STAGE_TWICE: usize = 6;
-
-pub const KIND_MANY: usize = 7;
-
-pub const STAGE_MANY: usize = 8;
-
-pub const MISSING: usize = 9;
-
-pub const EXTRA: usize = 10;
-
-pub const NO_NUMBER: usize = 11;
-
-pub const LARGE: usize = 12;
-
-pub const NO_KIND: usize = 13;
-
-pub const NO_STAGE: usize = 14;
-
-pub const WAIT_TWICE: usize = 15;
-
-pub const WAIT_MANY: usize = 16;
-
-pub const TIME_TWICE: usize = 17;
-
-pub const CORES: usize = 18;
-
-pub const WCET: usize = 19;
-
-pub const ITSELF: usize = 20;
-
-pub const CYCLE: usize = 21;
-
-pub const TIME: usize = 22;
-
-pub const KINDS_NONE: usize = 23;
-
-pub const STAGES_NONE: usize = 24;
-
-pub const ABSENT: usize = 25;
-
-// The row that says it, and the place in the text of the word that it is about.
-#[derive(Clone, Copy)]
+// What is wrong, and the place in the text of the word that it is about.
+#[derive(Clone, Copy, Debug, PartialEq, Eq)]
 pub struct Fault {
-    pub row: usize,
+    pub what: Wrong,
     pub at: usize,
 }
 
 // Whether a line that begins at the place is too long.
 fn is_long(t: &[u8], at: usize) -> bool
-    ensures { result ≡ ltb 4096 (until 0 t.now at - at) }
+    ensures { result ≡ ltb 4096 (until Line t.now at - at) }
 {
-    let end = texts::until(t, at, texts::LINE);
-    end - at > 4096
+    texts::until(t, at, Sought::Line) - at > 4096
 }
 
-fn of_lines(t: &[u8]) -> Fault
+fn of_lines(t: &[u8]) -> Result<(), Fault>
     ensures { result ≡ line_fault t.now }
 {
     let mut at = 0;
     while at < t.len() {
         if is_long(t, at) {
-            return Fault { row: LINE_LONG, at };
+            return Err(Fault {
+                what: Wrong::LineLong,
+                at,
+            });
         }
         at = texts::next(t, at);
     }
-    Fault { row: FINE, at: 0 }
+    Ok(())
 }
 
 // What is wrong with a text as such: its length, its bytes, its lines' lengths.
-pub fn of_text(t: &[u8]) -> Fault
+#[tactic(auto, unfolding(crate::specs::Faults::text_fault))]
+pub fn of_text(t: &[u8]) -> Result<(), Fault>
     ensures { result ≡ text_fault t.now }
 {
     if t.len() > 65536 {
-        return Fault {
-            row: TEXT_LONG,
+        return Err(Fault {
+            what: Wrong::TextLong,
             at: 65536,
-        };
+        });
     }
-    let strange = texts::until(t, 0, texts::STRANGE);
+    let strange = texts::until(t, 0, Sought::Strange);
     if strange < t.len() {
-        return Fault {
-            row: STRANGE,
+        return Err(Fault {
+            what: Wrong::Strange,
             at: strange,
-        };
+        });
     }
     of_lines(t)
 }
 
-// What is wrong with the word at the place as a number: it is none, or above the most.
-pub fn of_number(t: &[u8], at: usize, most: u64) -> Fault
+// The word at the place as a number; what is wrong with it where it is none, or above the most.
+pub fn of_number(t: &[u8], at: usize, most: u64) -> Result<u32, Fault>
     ensures { result ≡ number_fault t.now at most }
 {
-    let n = texts::number(t, at);
-    if n > texts::LARGE {
-        return Fault { row: NO_NUMBER, at };
+    match texts::number(t, at) {
+        Ok(n) => {
+            if u64::from(n) > most {
+                return Err(Fault {
+                    what: Wrong::Large,
+                    at,
+                });
+            }
+            Ok(n)
+        }
+        Err(e) => Err(Fault {
+            what: Wrong::from(e),
+            at,
+        }),
     }
-    if n > most {
-        return Fault { row: LARGE, at };
-    }
-    Fault { row: FINE, at: 0 }
 }
 
-// What is wrong with the word at the place as a new name beside the first n of a list. `twice` is the row for a name that is there.
-pub fn of_name(t: &[u8], at: usize, names: &[usize], n: usize, twice: usize) -> Fault
+// What is wrong with the word at the place as a new name beside the first n of a list. `twice` is what is wrong with a name that is there.
+#[tactic(auto, unfolding(crate::specs::Faults::name_fault))]
+pub fn of_name(t: &[u8], at: usize, names: &[usize], n: usize, twice: Wrong) -> Result<(), Fault>
     ensures { result ≡ name_fault t.now at names.now n twice }
 {
-    let end = texts::until(t, at, texts::END);
-    if end - at > 64 {
-        return Fault { row: NAME_LONG, at };
+    if texts::until(t, at, Sought::End) - at > 64 {
+        return Err(Fault {
+            what: Wrong::NameLong,
+            at,
+        });
     }
-    if texts::find(t, names, n, t, at) < n {
-        return Fault { row: twice, at };
+    match texts::find(t, names, n, t, at) {
+        Some(_) => Err(Fault { what: twice, at }),
+        None => Ok(()),
     }
-    Fault { row: FINE, at: 0 }
 }
 
-// What is wrong after the word at the place: a number of at most so much follows, and nothing else.
-pub fn of_number_alone(t: &[u8], at: usize, most: u64) -> Fault
+// The number of at most so much that follows the word at the place; what is wrong where none does, or something else too.
+#[tactic(auto, unfolding(crate::specs::Faults::alone_fault))]
+pub fn of_number_alone(t: &[u8], at: usize, most: u64) -> Result<u32, Fault>
     ensures { result ≡ alone_fault t.now at most }
 {
     let number = texts::after(t, at);
     if !texts::is_word(t, number) {
-        return Fault { row: MISSING, at };
+        return Err(Fault {
+            what: Wrong::Missing,
+            at,
+        });
     }
-    let f = of_number(t, number, most);
-    if f.row != FINE {
-        return f;
-    }
+    let n = of_number(t, number, most)?;
     let more = texts::after(t, number);
     if texts::is_word(t, more) {
-        return Fault {
-            row: EXTRA,
+        return Err(Fault {
+            what: Wrong::Extra,
             at: more,
-        };
+        });
     }
-    Fault { row: FINE, at: 0 }
+    Ok(n)
 }
 
-// What is wrong after the name of a stage: a type and a WCET follow. What it waits for is looked at later.
-pub fn of_stage(t: &[u8], at: usize) -> Fault
+// The WCET that follows the name of a stage, behind its type; what is wrong where they don't. What it waits for is looked at later.
+#[tactic(auto, unfolding(crate::specs::Faults::stage_fault))]
+pub fn of_stage(t: &[u8], at: usize) -> Result<u32, Fault>
     ensures { result ≡ stage_fault t.now at }
 {
     let kind = texts::after(t, at);
     if !texts::is_word(t, kind) {
-        return Fault { row: MISSING, at };
+        return Err(Fault {
+            what: Wrong::Missing,
+            at,
+        });
     }
     let wcet = texts::after(t, kind);
     if !texts::is_word(t, wcet) {
-        return Fault {
-            row: MISSING,
+        return Err(Fault {
+            what: Wrong::Missing,
             at: kind,
-        };
+        });
     }
     of_number(t, wcet, 4294967295)
 }

@@ -13,7 +13,7 @@ use Rattle.model.proofs.Bools.{cases, le-or-lt}
 use Rattle.model.proofs.Places.{first_below}
 use Rattle.graph.specs.File.{records}
 use Rattle.graph.specs.declared.Refusal.{Refusal}
-use Rattle.graph.specs.declared.Answer.TheVariants.{Accepted, Refused}
+use Rattle.graph.specs.Answer.{Accepted, Refused}
 use Rattle.recorded.specs.Log.{fault, wrong_length_of, unended, InForm}
 use Rattle.recorded.specs.Rules.{holds, number, places}
 use Rattle.recorded.specs.Judge.{place_of, judge_log}

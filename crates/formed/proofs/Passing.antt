@@ -10,11 +10,11 @@ use native.Mathlib.Decide.{ℕ_discrete}
 use lib.ListN.{length}
 use lib.Dec.{eqb, ltb, leb}
 use borrow.Author.Tests.{lt-ltb, le-ltb, ltb-false, eq-eqb, ne_eqb, lt-leb, le-leb}
-use Rattle.model.specs.Places.{pick, any, first}
+use Rattle.model.specs.Places.{pick, bit, any}
 use Rattle.model.proofs.Bools.{le-or-lt, or_left, or_right, or_neither, not-true, same_test}
-use Rattle.model.proofs.Places.{any_intro, any_elim, first-le, first_below}
+use Rattle.model.proofs.Places.{any_intro, any_elim, first_below}
 use Rattle.graph.specs.File.{records}
-use Rattle.graph.specs.declared.Answer.TheVariants.{Accepted, Refused}
+use Rattle.graph.specs.Answer.{Accepted, Refused}
 use Rattle.vset.specs.declared.Vset.{Vset}
 use Rattle.vset.specs.Members.{is_in, Members}
 use Rattle.vset.proofs.Taking.{twice}
@@ -23,7 +23,7 @@ use Rattle.recorded.proofs.Records.{Fine, fine, not-both, running_elim, start_of
 use Rattle.recorded.proofs.Prefix.{running_none, running-step}
 use Rattle.formed.specs.Passing.{least_key, fault_by, MetBy, FoundBy, form_of}
 use Rattle.formed.specs.declared.Met.{Met}
-use Rattle.formed.specs.declared.Found.{Found}
+use Rattle.std.specs.Prelude.{Ok, Err}
 
 -- ---- who runs after one record more
 
@@ -128,33 +128,30 @@ pub few-records : (l : List ℕ) → wrong_length_of l ≡ false → records l �
 unfolding wrong_length_of
 few-records l right = omega (arith, ltb-false 65536 (length l) (or_neither (not (eqb (length l % 8) 0)) (ltb 65536 (length l)) right).1)
 
-module _ (n : ℕ) (l : List ℕ) (right : wrong_length_of l ≡ false) (r : Found) (f : FoundBy n l r) where
-  pub form_record : r.first < records l → form_of n l ≡ Refused (record { number = 18; place = r.first })
+module _ (n : ℕ) (l : List ℕ) (right : wrong_length_of l ≡ false) where
+  pub form_record : (k : ℕ) → FoundBy n l (Err k) → form_of n l ≡ Refused (record { number = 18; place = k })
   unfolding form_of
-  form_record h = rw (right, f.first_is, lt-ltb (first (fault n l) (records l)) (records l) (rw f.first_is at h)) refl
+  form_record k f = rw (right, f.0, lt-ltb k (records l) f.1) refl
 
   -- where no record is at fault, those that run at the end are vertices of the graph
-  pub form_end : n ≤ 128 → records l ≤ r.first → (none : Bool) → none ≡ not (any (is_in r.on) 128)
+  pub form_end : n ≤ 128 → (on : Vset) → FoundBy n l (Ok on) → (none : Bool) → none ≡ not (any (is_in on) 128)
       → form_of n l ≡ pick (not none) (Refused (record { number = 18; place = 0 })) Accepted
   unfolding form_of unended
-  form_end few h none e =
-      rw (right, le-ltb (first (fault n l) (records l)) (records l) (rw f.first_is at h), e, ends)
-      (ap (λ (b : Bool). pick b (Refused (record { number = 18; place = 0 })) Accepted) (sym (twice (any (is_in r.on) 128))))
+  form_end few on f none e =
+      rw (right, f.0, le-ltb (records l) (records l) (omega arith), e, ends)
+      (ap (λ (b : Bool). pick b (Refused (record { number = 18; place = 0 })) Accepted) (sym (twice (any (is_in on) 128))))
     where
-      q : r.first ≡ records l
-      q = omega (arith, f.first_is, first-le (fault n l) (records l))
-
-      are : (v : ℕ) → is_in r.on v ≡ running l (records l) v
-      are v = rw q at (f.on_are.are v)
+      are : (v : ℕ) → is_in on v ≡ running l (records l) v
+      are v = f.1.are v
 
       known : (v : ℕ) → running l (records l) v ≡ true → v < n
       known v x =
           let y = running_elim l (records l) v x in
           let w = start_of l v y.from y.is in
-          omega (arith, (fine n l y.from (first_below (fault n l) (records l) y.from (omega (arith, y.within, f.first_is)))).vertex, w.1)
+          omega (arith, (fine n l y.from (first_below (fault n l) (records l) y.from (omega (arith, y.within, f.0)))).vertex, w.1)
 
-      ends : any (running l (records l)) n ≡ any (is_in r.on) 128
-      ends = same_test (any (running l (records l)) n) (any (is_in r.on) 128)
-          (λ x. let y = any_elim (running l (records l)) n x in any_intro (is_in r.on) 128 y.0 (omega (arith, y.1)) (are y.0 ∙ y.2))
-          (λ x. let y = any_elim (is_in r.on) 128 x in
+      ends : any (running l (records l)) n ≡ any (is_in on) 128
+      ends = same_test (any (running l (records l)) n) (any (is_in on) 128)
+          (λ x. let y = any_elim (running l (records l)) n x in any_intro (is_in on) 128 y.0 (omega (arith, y.1)) (are y.0 ∙ y.2))
+          (λ x. let y = any_elim (is_in on) 128 x in
           let z : running l (records l) y.0 ≡ true = sym (are y.0) ∙ y.2 in any_intro (running l (records l)) n y.0 (known y.0 z) z)

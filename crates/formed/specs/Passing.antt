@@ -5,7 +5,7 @@
 --   least_key l k            the lowest key that record k may have: one above the key before it
 --   fault_by n l k on least  record k is at fault, where `on` tells whether its vertex runs before it, and least is that key
 --   MetBy l k p             p holds what a pass has met before record k: who runs, and the lowest key of record k
---   FoundBy n l r           r holds the first record at fault, and who runs before it
+--   FoundBy n l r           r is who runs at the end, where no record is at fault; or the first record at fault
 --   form_of n l              the answer of 18 alone
 --   clock_at l k             the instant of the record before record k
 --   Clocked n l k cells     for each vertex that does not run after k records the ticks it ran; for one that runs, its start less those
@@ -13,16 +13,16 @@
 --   last_of l v k            one more than the last of the first k records that is of v, or 0
 --   Lasted l k lasts        the list has these numbers
 --   SpentBy n l r           r holds the totals, and the last records
-use Rattle.std.specs.Prelude.{◌≡◌, Bool, not, ◌&&◌, ◌||◌, List, ℕ, suc, ◌+◌, ◌-◌, ◌≤◌, ◌<◌, length, get_or, eqb, ltb, leb}
+use Rattle.std.specs.Prelude.{◌≡◌, Bool, not, ◌&&◌, ◌||◌, List, ℕ, suc, ◌+◌, ◌-◌, ◌≤◌, ◌<◌, length, get_or, eqb, ltb, leb, Result, Ok, Err}
 use Rattle.model.specs.Places.{pick, first, largest}
 use Rattle.graph.specs.File.{records, byte_at}
-use Rattle.graph.specs.declared.Answer.{Answer}
-use Rattle.graph.specs.declared.Answer.TheVariants.{Accepted, Refused}
+use Rattle.graph.specs.Answer.{Answer}
+use Rattle.graph.specs.Answer.{Accepted, Refused}
 use Rattle.vset.specs.Members.{Members}
 use Rattle.recorded.specs.Log.{is_start, is_stop, who, instant_at, key, running, fault, wrong_length_of, unended}
 use Rattle.recorded.specs.Recorded.{ran_ticks, total}
 use Rattle.formed.specs.declared.Met.{Met}
-use Rattle.formed.specs.declared.Found.{Found}
+use Rattle.vset.specs.declared.Vset.{Vset}
 use Rattle.formed.specs.declared.Spent.{Spent}
 
 unfoldable pub least_key : List ℕ → ℕ → ℕ
@@ -39,9 +39,9 @@ pub record MetBy (l : List ℕ) (k : ℕ) (p : Met) : Type 0 where
   pub on_are : Members p.on (running l k)
   pub least_is : p.least ≡ least_key l k
 
-pub record FoundBy (n : ℕ) (l : List ℕ) (r : Found) : Type 0 where
-  pub first_is : r.first ≡ first (fault n l) (records l)
-  pub on_are : Members r.on (running l r.first)
+abbrev pub FoundBy : ℕ → List ℕ → Result Vset ℕ → Type 0
+FoundBy n l (Ok on) = (first (fault n l) (records l) ≡ records l) × Members on (running l (records l))
+FoundBy n l (Err k) = (first (fault n l) (records l) ≡ k) × (k < records l)
 
 unfoldable pub form_of : ℕ → List ℕ → Answer
 form_of n l =

@@ -3,14 +3,13 @@
 #![tactic(auto)]
 
 ghost use Rattle.std.specs.Prelude.{◌≡◌, false, not, ◌&&◌, ◌||◌, List, ℕ, ◌+◌, ◌*◌, ◌<◌, ◌≤◌, eqb};
-ghost use Rattle.model.specs.Places.{pick, bit};
+ghost use Rattle.model.specs.Places.{pick};
 ghost use Rattle.graph.specs.File.{records};
-ghost use Rattle.graph.specs.declared.Answer.TheVariants.{Refused};
 ghost use Rattle.vset.specs.Members.{is_in, Members};
 ghost use Rattle.recorded.specs.Log.{is_start, is_stop, key, fault, wrong_length_of, InForm};
 ghost use Rattle.formed.specs.Passing.{fault_by, MetBy, FoundBy, form_of, Clocked, Lasted, SpentBy};
 
-use graph::{Answer, Refusal};
+use graph::Refusal;
 use vset::Vset;
 
 // What a pass over the records has met: who runs, and the lowest key that the next record may have.
@@ -20,14 +19,8 @@ pub struct Met {
     pub least: usize,
 }
 
-// The first record at fault, or as many as there are, and who runs before it.
-#[derive(Clone, Copy)]
-pub struct Found {
-    pub first: usize,
-    pub on: Vset,
-}
-
-// Each vertex's total, and one more than its last record: 0 where it has none.
+// Each vertex's total, and one more than its last record: 0 where it has none. A place and not an Option of it: `Lasted` (specs/Passing) says it
+// in numbers, and an Option would double the table.
 #[derive(Clone, Copy)]
 pub struct Spent {
     pub totals: [u32; 128],
@@ -48,19 +41,12 @@ fn stops(log: &[u8], k: usize) -> bool
     records::byte(log, k, 0) == 0x50
 }
 
-// 256 where `b` holds, else 0.
-fn half(b: bool) -> usize
-    ensures { (result ≡ 256 * bit b) × (result < 257) }
-{
-    if b { 256 } else { 0 }
-}
-
 // The number that records ascend by.
 fn key(log: &[u8], k: usize) -> usize
     requires { k < records log.now }
     ensures { (result ≡ key log.now k) × (result < 2199023255552) }
 {
-    512 * records::word(log, k) + half(starts(log, k)) + records::byte(log, k, 1)
+    512 * records::word(log, k) + 256 * usize::from(starts(log, k)) + records::byte(log, k, 1)
 }
 
 // Vertex `v` starts or stops.
@@ -107,9 +93,8 @@ fn pass(log: &[u8], n: usize, k: usize, p: Met) -> Met
     requires { (k < records log.now) × (n ≤ 128) × MetBy log.now k p × (fault n log.now k ≡ false) }
     ensures { MetBy log.now (k + 1) result }
 {
-    let on = switched(p.on, records::byte(log, k, 1), starts(log, k));
     Met {
-        on,
+        on: switched(p.on, records::byte(log, k, 1), starts(log, k)),
         least: key(log, k) + 1,
     }
 }
@@ -118,28 +103,25 @@ fn pass(log: &[u8], n: usize, k: usize, p: Met) -> Met
 fn begun() -> Met
     ensures { (l : List ℕ) → MetBy l 0 result }
 {
-    let on = vset::none();
-    Met { on, least: 0 }
+    Met {
+        on: vset::none(),
+        least: 0,
+    }
 }
 
-fn first_fault(log: &[u8], n: usize) -> Found
+// Who runs at the end; or the first record at fault.
+fn first_fault(log: &[u8], n: usize) -> Result<Vset, usize>
     requires { n ≤ 128 }
     ensures { FoundBy n log.now result }
 {
-    let m = log.len() / 8;
     let mut p = begun();
-    let mut k = 0usize;
-    while k < m {
+    for k in 0..log.len() / 8 {
         if faulty(log, n, k, p) {
-            let on = p.on;
-            return Found { first: k, on };
+            return Err(k);
         }
-        let next = pass(log, n, k, p);
-        p = next;
-        k += 1;
+        p = pass(log, n, k, p);
     }
-    let on = p.on;
-    Found { first: k, on }
+    Ok(p.on)
 }
 
 fn wrong_length(log: &[u8]) -> bool
@@ -148,28 +130,27 @@ fn wrong_length(log: &[u8]) -> bool
     (log.len() % 8 != 0) | (65536 < log.len())
 }
 
-fn malformed(place: u32) -> Answer
-    ensures { result ≡ Refused (record { number = 18; place = place }) }
-{
-    Answer::Refused(Refusal { number: 18, place })
-}
-
-pub fn judge(log: &[u8], n: usize) -> Answer
+pub fn judge(log: &[u8], n: usize) -> Result<(), Refusal>
     requires { n ≤ 128 }
     ensures { result ≡ form_of n log.now }
 {
     if wrong_length(log) {
-        return malformed(0);
+        return Err(Refusal::whole(18));
     }
-    let found = first_fault(log, n);
-    let first = found.first;
-    if first < log.len() / 8 {
-        return malformed(first as u32);
+    match first_fault(log, n) {
+        Err(first) => {
+            Err(Refusal {
+                number: 18,
+                place: first as u32,
+            })
+        }
+        Ok(on) => {
+            if !vset::is_empty(on) {
+                return Err(Refusal::whole(18));
+            }
+            Ok(())
+        }
     }
-    if !vset::is_empty(found.on) {
-        return malformed(0);
-    }
-    Answer::Accepted
 }
 
 // ---- totals, and last records
@@ -193,13 +174,10 @@ pub fn add_up(log: &[u8], n: usize) -> Spent
     requires { (n ≤ 128) × InForm n log.now }
     ensures { SpentBy n log.now result }
 {
-    let m = log.len() / 8;
     let mut totals = [0u32; 128];
     let mut lasts = [0u16; 128];
-    let mut k = 0usize;
-    while k < m {
+    for k in 0..log.len() / 8 {
         turn(log, n, k, &mut totals, &mut lasts);
-        k += 1;
     }
     Spent { totals, lasts }
 }

@@ -16,13 +16,14 @@ use Rattle.model.proofs.Bools.{cases, le-or-lt}
 use Rattle.model.proofs.Places.{count_none}
 use Rattle.graph.specs.File.{records}
 use Rattle.graph.specs.Model.{as_model}
-use Rattle.graph.specs.declared.Graph.{Graph}
+use Rattle.reader.specs.Laid.{Usable}
+use Rattle.reader.specs.declared.Laid.{Laid}
 use Rattle.ready.proofs.ByNumbers.{layout}
 use Rattle.choice.proofs.ByKind.{kinds-known}
 use Rattle.vset.specs.declared.Vset.{Vset}
 use Rattle.vset.specs.Members.{is_in, Members}
 use Rattle.vset.proofs.Gather.{members_ext}
-use Rattle.choice.specs.Choice.{of_kind_of, set_at_of, OfKinds}
+use Rattle.choice.specs.Choice.{of_kind_of, set_at_of}
 use Rattle.waiting.specs.Waiting.{edges_by, Layout, Settled}
 use Rattle.recorded.specs.Log.{is_start, who, running, InForm}
 use Rattle.recorded.proofs.Records.{Fine, fine-at}
@@ -30,42 +31,39 @@ use Rattle.recorded.proofs.Prefix.{running_none}
 use Rattle.formed.specs.Passing.{last_of, Lasted}
 use Rattle.formed.proofs.Passing.{switch_is}
 use Rattle.formed.proofs.Lasting.{later-record, record-later}
-use Rattle.frames.specs.Frames.{LentOf, Lists, Used, used_by, full_by, Framed, crowded_by, MovedBy}
+use Rattle.frames.specs.Frames.{Lists, Used, used_by, full_by, Framed, crowded_by, MovedBy}
 use Rattle.frames.specs.declared.Frame.{Frame}
 use Rattle.frames.proofs.Using.{used_other, used-next}
 
 -- ---- what the graph gives
 
-module _ {g : Graph} {n : ℕ} {cores kind edge starts : List ℕ} (L : LentOf g n cores kind edge starts) where
-  few : n ≤ 128
-  few = rw L.n_is L.accepted.few_vertices
+module _ {lent : Laid} (U : Usable lent) where
+  few : lent.graph.n ≤ 128
+  few = U.accepted.few_vertices
 
-  pub kinds-below : (n ≤ 128) × ((v : ℕ) → v < n → get_or kind v 0 < 10)
-  kinds-below = (few, rw (L.n_is, L.kind_is) (kinds-known g L.accepted))
+  pub kinds-below : (v : ℕ) → v < lent.graph.n → get_or lent.graph.kind v 0 < 10
+  kinds-below = kinds-known lent.graph U.accepted
 
-  laid : Layout edge starts
-  laid = rw (L.edges_are, L.starts_are) (layout g L.accepted)
+  pub layout-of : Layout lent.graph.edge lent.starts
+  layout-of = rw U.along.starts (layout lent.graph U.accepted)
 
-  pub lists : {l words lasts : List ℕ} → InForm n l → OfKinds words kind n → Lasted l (records l) lasts → Lists n l kind words edge starts lasts
-  lists f w s = record { few = few; in_form = f; known = kinds-below.1; words_are = w; layout = laid; lasts_are = s }
-
-  some_core : (v : ℕ) → v < n → 0 < get_or cores (get_or kind v 0) 0
+  some_core : (v : ℕ) → v < lent.graph.n → 0 < get_or lent.graph.cores (get_or lent.graph.kind v 0) 0
   unfolding as_model
   some_core v h =
-      let W = L.accepted.well_formed in
-      rw (L.cores_are, L.kind_is) (W.some_core _ (W.kind_known v (rw L.n_is at h)))
+      let W = U.accepted.well_formed in
+      W.some_core _ (W.kind_known v h)
 
   -- before the first record nobody runs, so that every kind has an idle core
-  module _ {l lasts : List ℕ} (f : InForm n l) (s : Lasted l (records l) lasts) where
+  module _ {l lasts : List ℕ} (f : InForm lent.graph.n l) (s : Lasted l (records l) lasts) where
     pub framed-none : (x : Frame) (used waiting : List ℕ) → Members x.busy (λ v. ltb 0 (get_or lasts v 0))
-        → Settled edge (edges_by starts) waiting (is_in x.busy) x.behind → Members x.on (λ v. false) → Members x.full (λ v. false)
-        → Used kind n l 0 used → Framed n l kind cores edge starts 0 used waiting x
+        → Settled lent.graph.edge (edges_by lent.starts) waiting (is_in x.busy) x.behind → Members x.on (λ v. false) → Members x.full (λ v. false)
+        → Used lent.graph.kind lent.graph.n l 0 used → Framed lent l 0 used waiting x
     unfolding full_by used_by
     framed-none x used waiting busy settled on full u = record {
       on_are = members_ext x.on (λ v. false) (running l 0) on (λ v. sym (running_none l v));
       busy_are = members_ext x.busy (λ v. ltb 0 (get_or lasts v 0)) (λ v. ltb 0 (last_of l v (records l))) busy (λ v. ap (ltb 0) (at v (le-or-lt 128 v)));
       settled = settled;
-      full_are = members_ext x.full (λ v. false) _ full (λ v. sym (idle v (cases (ltb v n))));
+      full_are = members_ext x.full (λ v. false) _ full (λ v. sym (idle v (cases (ltb v lent.graph.n))));
       used_are = u;
     }
       where
@@ -77,17 +75,26 @@ module _ {g : Graph} {n : ℕ} {cores kind edge starts : List ℕ} (L : LentOf g
         at v (inl h) = get_or-eq_default lasts 0 (omega (arith, s.size)) ∙ none v h (le-or-lt (last_of l v (records l)) 0)
         at v (inr h) = s.at v h
 
-        nobody : (i : ℕ) → count (λ u. running l 0 u && eqb (get_or kind u 0) i) n ≡ 0
-        nobody i = count_none (λ u. running l 0 u && eqb (get_or kind u 0) i) n (λ u h. ap (λ (b : Bool). b && eqb (get_or kind u 0) i) (running_none l u))
+        nobody : (i : ℕ) → count (λ u. running l 0 u && eqb (get_or lent.graph.kind u 0) i) lent.graph.n ≡ 0
+        nobody i = count_none (λ u. running l 0 u && eqb (get_or lent.graph.kind u 0) i) lent.graph.n (λ u h. ap (λ (b : Bool). b && eqb (get_or lent.graph.kind u 0) i) (running_none l u))
 
-        idle : (v : ℕ) → (ltb v n ≡ true) ⊎ (ltb v n ≡ false)
-            → ltb v n && leb (get_or cores (get_or kind v 0) 0) (count (λ u. running l 0 u && eqb (get_or kind u 0) (get_or kind v 0)) n) ≡ false
-        idle v (inl t) = rw (t, nobody (get_or kind v 0)) (lt-leb (get_or cores (get_or kind v 0) 0) 0 (some_core v (ltb-true v n t)))
+        idle : (v : ℕ) → (ltb v lent.graph.n ≡ true) ⊎ (ltb v lent.graph.n ≡ false)
+            → ltb v lent.graph.n && leb (get_or lent.graph.cores (get_or lent.graph.kind v 0) 0) (count (λ u. running l 0 u && eqb (get_or lent.graph.kind u 0) (get_or lent.graph.kind v 0)) lent.graph.n) ≡ false
+        idle v (inl t) = rw (t, nobody (get_or lent.graph.kind v 0)) (lt-leb (get_or lent.graph.cores (get_or lent.graph.kind v 0) 0) 0 (some_core v (ltb-true v lent.graph.n t)))
         idle v (inr t) = rw t refl
 
 -- ---- one record more
 
-module _ {n : ℕ} {l kind words edge starts lasts : List ℕ} (L : Lists n l kind words edge starts lasts) (cores : List ℕ) (k : ℕ) (h : k < records l) where
+module _ {lent : Laid} {l words lasts : List ℕ} (L : Lists lent l words lasts) (k : ℕ) (h : k < records l) where
+  abbrev n : ℕ
+  n = lent.graph.n
+
+  abbrev kind : List ℕ
+  kind = lent.graph.kind
+
+  abbrev cores : List ℕ
+  cores = lent.graph.cores
+
   fine : Fine n l k
   fine = fine-at L.in_form k h
 
@@ -99,7 +106,7 @@ module _ {n : ℕ} {l kind words edge starts lasts : List ℕ} (L : Lists n l ki
   was-busy = lt-ltb k (last_of l (who l k) (records l)) (record-later l (who l k) k h refl)
 
   last-known : get_or lasts (who l k) 0 ≡ last_of l (who l k) (records l)
-  last-known = L.lasts_are.at (who l k) (omega (arith, fine.vertex, L.few))
+  last-known = L.lasts_are.at (who l k) (omega (arith, fine.vertex, few L.usable))
 
   -- a vertex has no records to come where this one is its last
   pub busy-next : (u : ℕ) → ltb k (last_of l u (records l)) && not (eqb (get_or lasts (who l k) 0) (k + 1) && eqb u (who l k)) ≡ ltb (k + 1) (last_of l u (records l))
@@ -146,15 +153,15 @@ module _ {n : ℕ} {l kind words edge starts lasts : List ℕ} (L : Lists n l ki
       go (inr t) d = rw t refl
       go (inl t) (yes q) = rw (t, q, eq-eqb s s refl) refl
       go (inl t) (no q) =
-          rw (t, ne_eqb (get_or kind v 0) s q, add-one k) (ap (leb (get_or cores (get_or kind v 0) 0)) (sym (used_other kind L.in_form L.few k h (get_or kind v 0) q)))
+          rw (t, ne_eqb (get_or kind v 0) s q, add-one k) (ap (leb (get_or cores (get_or kind v 0) 0)) (sym (used_other kind L.in_form (few L.usable) k h (get_or kind v 0) q)))
 
-  module _ (used waiting : List ℕ) (f : Frame) (F : Framed n l kind cores edge starts k used waiting f) (many : ℕ)
+  module _ (used waiting : List ℕ) (f : Frame) (F : Framed lent l k used waiting f) (many : ℕ)
       (many_is : many ≡ get_or used s 0 + 2 * bit (is_start l k) - 1) where
     kind_known : s < 10
-    kind_known = L.known (who l k) fine.vertex
+    kind_known = kinds-below L.usable (who l k) fine.vertex
 
     used-then : Used kind n l (k + 1) (set used s many)
-    used-then = rw many_is (used-next kind L.in_form L.few k h L.known used F.used_are)
+    used-then = rw many_is (used-next kind L.in_form (few L.usable) k h (kinds-below L.usable) used F.used_are)
 
     many-then : many ≡ used_by kind n l (k + 1) s
     many-then = sym (get_or-set_same used s many 0 (omega (arith, kind_known, F.used_are.size))) ∙ used-then.at s kind_known
@@ -166,9 +173,9 @@ module _ {n : ℕ} {l kind words edge starts lasts : List ℕ} (L : Lists n l ki
     framed-next : (on busy behind full : Vset) (after : List ℕ)
         → Members on (λ v. pick (is_start l k) (is_in f.on v || eqb v (who l k)) (is_in f.on v && not (eqb v (who l k))))
         → Members busy (λ v. is_in f.busy v && not (eqb (get_or lasts (who l k) 0) (k + 1) && eqb v (who l k)))
-        → Settled edge (edges_by starts) after (is_in busy) behind
+        → Settled lent.graph.edge (edges_by lent.starts) after (is_in busy) behind
         → Members full (λ v. pick (is_in (set_at_of words s) v) (leb (get_or cores s 0) many) (is_in f.full v))
-        → Framed n l kind cores edge starts (k + 1) (set used s many) after (record { on = on; busy = busy; behind = behind; full = full })
+        → Framed lent l (k + 1) (set used s many) after (record { on = on; busy = busy; behind = behind; full = full })
     framed-next on busy behind full after o b settled u = record {
       on_are = members_ext on _ (running l (k + 1)) o (λ v. rw (add-one k) (switch_is fine (is_in f.on) F.on_are.are v));
       busy_are = members_ext busy _ (λ v. ltb (k + 1) (last_of l v (records l))) b
@@ -182,14 +189,14 @@ module _ {n : ℕ} {l kind words edge starts lasts : List ℕ} (L : Lists n l ki
         full_is v = rw ((L.words_are.each s kind_known).are v, many-then, F.full_are.are v) (full-next v)
 
   -- after record k, whose vertex is v
-  module _ (used waiting : List ℕ) (f : Frame) (F : Framed n l kind cores edge starts k used waiting f) where
+  module _ (used waiting : List ℕ) (f : Frame) (F : Framed lent l k used waiting f) where
     abbrev Step : ℕ → Bool → Type 0
     Step v start = (many : ℕ) → many ≡ get_or used (get_or kind v 0) 0 + 2 * bit start - 1 → (on busy behind full : Vset) (after : List ℕ)
         → Members on (λ u. pick start (is_in f.on u || eqb u v) (is_in f.on u && not (eqb u v)))
         → Members busy (λ u. is_in f.busy u && not (eqb (get_or lasts v 0) (k + 1) && eqb u v))
-        → Settled edge (edges_by starts) after (is_in busy) behind
+        → Settled lent.graph.edge (edges_by lent.starts) after (is_in busy) behind
         → Members full (λ u. pick (is_in (set_at_of words (get_or kind v 0)) u) (leb (get_or cores (get_or kind v 0) 0) many) (is_in f.full u))
-        → MovedBy n l kind cores edge starts k (set used (get_or kind v 0) many) after
+        → MovedBy lent l k (set used (get_or kind v 0) many) after
         (record { frame = record { on = on; busy = busy; behind = behind; full = full }; crowded = start && ltb (get_or cores (get_or kind v 0) 0) many })
 
     pub moved : (v : ℕ) (start : Bool) → v ≡ who l k → start ≡ is_start l k → Step v start

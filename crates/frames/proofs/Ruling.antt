@@ -5,7 +5,7 @@
 -- record.
 use mathlib.Core.Path.{◌≡◌, refl, sym, ap, ap₂, ◌∙◌, fun_ext}
 use mathlib.Core.Logic.{◌⊎◌, inl, inr, ⊎_elim}
-use mathlib.Core.Bool.{Bool, true, false, not, ◌&&◌, ◌||◌}
+use mathlib.Core.Bool.{Bool, true, false, not, ◌&&◌, ◌||◌, and-true}
 use mathlib.Core.List.{List}
 use Prim.Native.Nat.{ℕ, zero, suc, ◌+◌, ◌-◌, ◌≤◌, ◌<◌}
 use native.Mathlib.Numerals.{add-one}
@@ -14,7 +14,7 @@ use native.Mathlib.Decide.{ℕ_discrete}
 use lib.ListN.{get_or}
 use lib.Dec.{eqb, ltb, leb}
 use borrow.Author.Tests.{lt-ltb, le-ltb, ltb-true, lt-leb, le-leb}
-use Rattle.model.specs.Places.{pick, any, first, count}
+use Rattle.model.specs.Places.{any, count}
 use Rattle.model.specs.Graph.{Edge, WellFormed}
 use Rattle.model.specs.Graph as model
 use Rattle.model.specs.Cycle.{Walk, Acyclic}
@@ -27,6 +27,8 @@ use Rattle.model.proofs.Tests.{finished-tells}
 use Rattle.graph.specs.File.{records}
 use Rattle.graph.specs.Model.{as_model, AcceptedGraph}
 use Rattle.graph.specs.declared.Graph.{Graph}
+use Rattle.reader.specs.Laid.{Usable}
+use Rattle.reader.specs.declared.Laid.{Laid}
 use Rattle.vset.specs.Members.{is_in}
 use Rattle.ready.specs.Ready.{is_behind}
 use Rattle.ready.proofs.Ancestors.{last-edge, behind_walk, edge-behind}
@@ -41,12 +43,15 @@ use Rattle.recorded.proofs.Seen.{idle-on}
 use Rattle.formed.specs.Passing.{clock_at}
 use Rattle.formed.proofs.Clocks.{clock_zero, clock_plus, clock_up, clock_before, clock_after}
 use Rattle.formed.proofs.Lasting.{Parted, left-later-record, later-record}
-use Rattle.frames.specs.Frames.{LentOf, used_by, full_by, Framed, idles, crowded_by, MovedBy, FaultsBy, PassedBy}
+use Rattle.frames.specs.Frames.{used_by, full_by, Framed, idles, crowded_by, MovedBy, FaultsBy, PassedBy}
 use Rattle.frames.specs.declared.Frame.{Frame}
 use Rattle.frames.specs.declared.Moved.{Moved}
 use Rattle.frames.specs.declared.Faults.{Faults}
 use Rattle.frames.specs.declared.Pass.{Pass}
-use Rattle.frames.proofs.Scan.{first_on}
+use Rattle.frames.proofs.Scan.{first_on, first_in-none}
+use Rattle.std.specs.Prelude.{Option, None}
+use Rattle.std.specs.Option.{option_or}
+use Rattle.std.specs.Bool.{then_some}
 
 -- a predecessor is unfinished just where the vertex stands behind one that has ticks left
 early-is : {G : model.Graph} → WellFormed G → Acyclic G → (c : ℕ → ℕ) (v : ℕ) → v < G.n
@@ -81,13 +86,25 @@ early-is {G} W A c v l = same_test (any (λ u. G.edge u v && not (finished G c u
                 wrong (inl q) f = omega (arith, rw q at (ltb-true 0 (c w) p), fin_left f)
                 wrong (inr z) f = omega (arith, ltb-true 0 (c w) p, fin_ancestor z f)
 
-module _ (g : Graph) {n : ℕ} {cores kind edge starts : List ℕ} (L : LentOf g n cores kind edge starts) {l : List ℕ} (f : InForm n l) (k : ℕ) (h : k < records l)
-    (used wait : List ℕ) (x : Frame) (F : Framed n l kind cores edge starts k used wait x) where
+module _ {lent : Laid} (U : Usable lent) {l : List ℕ} (f : InForm lent.graph.n l) (k : ℕ) (h : k < records l)
+    (used wait : List ℕ) (x : Frame) (F : Framed lent l k used wait x) where
+  abbrev g : Graph
+  g = lent.graph
+
+  abbrev n : ℕ
+  n = lent.graph.n
+
+  abbrev kind : List ℕ
+  kind = lent.graph.kind
+
+  abbrev cores : List ℕ
+  cores = lent.graph.cores
+
   A : AcceptedGraph g
-  A = L.accepted
+  A = U.accepted
 
   few : n ≤ 128
-  few = rw L.n_is A.few_vertices
+  few = A.few_vertices
 
   abbrev G : model.Graph
   G = as_model g
@@ -95,7 +112,7 @@ module _ (g : Graph) {n : ℕ} {cores kind edge starts : List ℕ} (L : LentOf g
   -- where the frame tells who has ticks left at t, it tells who stands behind one that has
   behind-at : (t : ℕ) → ((v : ℕ) → Parted l v t k) → (v : ℕ) → is_in x.behind v ≡ is_behind G (λ u. ltb 0 (left (schedule_of l) t u)) v
   behind-at t parted v =
-      settled-behind g A wait (is_in x.busy) x.behind (rw (L.edges_are, L.starts_are, edges-counted g A) at F.settled) v
+      settled-behind g A wait (is_in x.busy) x.behind (rw (U.along.starts, edges-counted g A) at F.settled) v
       ∙ ap (λ (p : ℕ → Bool). is_behind G p v) (fun_ext (λ u. F.busy_are.are u ∙ sym (left-later-record f few u t k (parted u))))
 
   -- ---- 19
@@ -115,7 +132,7 @@ module _ (g : Graph) {n : ℕ} {cores kind edge starts : List ℕ} (L : LentOf g
   rule19-is = go (cases (is_start l k))
     where
       v : who l k < g.n
-      v = omega (arith, (fine-at f k h).vertex, L.n_is)
+      v = (fine-at f k h).vertex
 
       go : (is_start l k ≡ true) ⊎ (is_start l k ≡ false) → is_start l k && is_in x.behind (who l k)
           ≡ is_start l k && any (λ u. G.edge u (who l k) && not (finished G (left (schedule_of l) (instant_at l k)) u)) g.n
@@ -127,7 +144,7 @@ module _ (g : Graph) {n : ℕ} {cores kind edge starts : List ℕ} (L : LentOf g
 
   pub rule20-is : crowded_by kind cores n l k ≡ rule20 G l k
   unfolding rule20 crowded_by used_by as_model
-  rule20-is = rw (L.kind_is, L.cores_are, L.n_is, add-one k) refl
+  rule20-is = rw (add-one k) refl
 
   -- ---- 22
 
@@ -176,11 +193,11 @@ module _ (g : Graph) {n : ℕ} {cores kind edge starts : List ℕ} (L : LentOf g
         && ltb (count (λ u. runs_in l (clock_at l k) u && eqb (get_or kind u 0) (get_or kind v 0)) n) (get_or cores (get_or kind v 0) 0)
 
     each : (v : ℕ) → v < n → idles x v ≡ rule v
-    each v b = rw (able_is v (omega (arith, L.n_is)), on-is v, idle-is v b) refl
+    each v b = rw (able_is v b, on-is v, idle-is v b) refl
 
     pub rule22-is : any (idles x) 128 ≡ rule22 G l (clock_at l k)
     unfolding rule22 waiting as_model
-    rule22-is = go ∙ rw (L.kind_is, L.cores_are, L.n_is) refl
+    rule22-is = go
       where
         go : any (idles x) 128 ≡ any rule n
         go = same_test (any (idles x) 128) (any rule n)
@@ -198,7 +215,7 @@ module _ (g : Graph) {n : ℕ} {cores kind edge starts : List ℕ} (L : LentOf g
       rw e (idle-on G form (d + clock_at l k) none ∙ same-between d (omega arith))
     where
       form : InForm G.n l
-      form = unfold as_model in rw (← L.n_is) f
+      form = unfold as_model in f
 
       none : (i : ℕ) → i < records l → instant_at l i ≡ suc (d + clock_at l k) → ⊥
       none i b q = ⊎_elim (λ (y : k ≤ i). omega (arith, clock_after f few k h i y b)) (λ (y : i < k). omega (arith, clock_before f few k h i y)) (le-or-lt k i)
@@ -207,14 +224,16 @@ module _ (g : Graph) {n : ℕ} {cores kind edge starts : List ℕ} (L : LentOf g
 
   faults-next : (r : Faults) → FaultsBy G l k r → (at_start waits crowded : Bool) → at_start ≡ is_start l k && is_in x.behind (who l k)
       → waits ≡ any (idles x) 128 → crowded ≡ crowded_by kind cores n l k → FaultsBy G l (k + 1) (record {
-        early = pick (eqb r.early k && not at_start) (k + 1) r.early;
-        crowded = pick (eqb r.crowded k && not crowded) (k + 1) r.crowded;
-        idle = pick (eqb r.idle (clock_at l k) && not waits) (instant_at l k) r.idle;
+        early = option_or r.early (then_some at_start k);
+        crowded = option_or r.crowded (then_some crowded k);
+        idle = option_or r.idle (then_some (waits && ltb (clock_at l k) (instant_at l k)) (clock_at l k));
       })
   faults-next r P at_start waits crowded s w c = record {
-    early = rw P.early (first_on (rule19 G l) k (k + 1) at_start (omega arith) (λ i a b. let q : i ≡ k = omega arith in rw q (sym (s ∙ rule19-is))));
-    crowded = rw P.crowded (first_on (rule20 G l) k (k + 1) crowded (omega arith) (λ i a b. let q : i ≡ k = omega arith in rw q (sym (c ∙ rule20-is))));
-    idle = rw (P.idle, clock_plus l k) (first_on (rule22 G l) (clock_at l k) (instant_at l k) waits (clock_up f few k h) (λ i a b. between i a b ∙ sym w));
+    early = first_on (rule19 G l) k (k + 1) at_start (omega arith) (λ i a b. let q : i ≡ k = omega arith in rw q (sym (s ∙ rule19-is))) (λ t. omega arith) r.early P.early;
+    crowded = first_on (rule20 G l) k (k + 1) crowded (omega arith) (λ i a b. let q : i ≡ k = omega arith in rw q (sym (c ∙ rule20-is))) (λ t. omega arith) r.crowded P.crowded;
+    idle = rw (clock_plus l k) (first_on (rule22 G l) (clock_at l k) (instant_at l k) (waits && ltb (clock_at l k) (instant_at l k)) (clock_up f few k h)
+        (λ i a b. between i a b ∙ (sym w ∙ sym (rw (lt-ltb (clock_at l k) (instant_at l k) (omega arith)) (and-true waits))))
+        (λ t. ltb-true (clock_at l k) (instant_at l k) (right_of waits _ t)) r.idle P.idle);
   }
     where
       between : (i : ℕ) → clock_at l k ≤ i → i < instant_at l k → rule22 G l i ≡ any (idles x) 128
@@ -224,25 +243,24 @@ module _ (g : Graph) {n : ℕ} {cores kind edge starts : List ℕ} (L : LentOf g
 
 -- ---- the pass
 
-pub passed_none : {n : ℕ} {l kind cores edge starts used wait : List ℕ} (p : Pass) → Framed n l kind cores edge starts 0 used wait p.frame
-    → p.faults ≡ record { early = 0; crowded = 0; idle = 0 } → p.clock ≡ 0 → PassedBy n l kind cores edge starts 0 used wait p
-unfolding first
+pub passed_none : {lent : Laid} {l used wait : List ℕ} (p : Pass) → Framed lent l 0 used wait p.frame
+    → p.faults ≡ record { early = None; crowded = None; idle = None } → p.clock ≡ 0 → PassedBy lent l 0 used wait p
 passed_none {l = l} p F e c = record {
   framed = F;
   clock_is = c ∙ sym (clock_zero l);
-  found = λ g L. rw e (record { early = refl; crowded = refl; idle = rw (clock_zero l) refl });
+  found = rw e (record { early = first_in-none _; crowded = first_in-none _; idle = rw (clock_zero l) (first_in-none _) });
 }
 
-pub passed_next : {n : ℕ} {l kind cores edge starts : List ℕ} → InForm n l → (k : ℕ) → k < records l → {used wait after later : List ℕ} (p : Pass)
-    → PassedBy n l kind cores edge starts k used wait p → (m : Moved) → MovedBy n l kind cores edge starts k after later m
+pub passed_next : {lent : Laid} {l : List ℕ} → Usable lent → InForm lent.graph.n l → (k : ℕ) → k < records l → {used wait after later : List ℕ} (p : Pass)
+    → PassedBy lent l k used wait p → (m : Moved) → MovedBy lent l k after later m
     → (at_start waits : Bool) → at_start ≡ is_start l k && is_in p.frame.behind (who l k) → waits ≡ any (idles p.frame) 128
-    → (t early crowded idle : ℕ) → t ≡ instant_at l k → early ≡ pick (eqb p.faults.early k && not at_start) (k + 1) p.faults.early
-    → crowded ≡ pick (eqb p.faults.crowded k && not m.crowded) (k + 1) p.faults.crowded
-    → idle ≡ pick (eqb p.faults.idle p.clock && not waits) t p.faults.idle
-    → PassedBy n l kind cores edge starts (k + 1) after later (record { frame = m.frame; faults = record { early = early; crowded = crowded; idle = idle }; clock = t })
-passed_next {l = l} f k h {used} {wait} p P m M at_start waits s w t early crowded idle q a b c = record {
+    → (t : ℕ) (early crowded idle : Option ℕ) → t ≡ instant_at l k → early ≡ option_or p.faults.early (then_some at_start k)
+    → crowded ≡ option_or p.faults.crowded (then_some m.crowded k)
+    → idle ≡ option_or p.faults.idle (then_some (waits && ltb p.clock t) p.clock)
+    → PassedBy lent l (k + 1) after later (record { frame = m.frame; faults = record { early = early; crowded = crowded; idle = idle }; clock = t })
+passed_next {l = l} U f k h {used} {wait} p P m M at_start waits s w t early crowded idle q a b c = record {
   framed = M.framed;
   clock_is = q ∙ sym (clock_plus l k);
-  found = λ g L. rw (a, b, c, q, P.clock_is)
-      (faults-next g L f k h used wait p.frame P.framed p.faults (P.found g L) at_start waits m.crowded s w M.crowded_is);
+  found = rw (a, b, c, q, P.clock_is)
+      (faults-next U f k h used wait p.frame P.framed p.faults P.found at_start waits m.crowded s w M.crowded_is);
 }

@@ -4,18 +4,17 @@
 #![tactic(auto)]
 
 ghost use Rattle.std.specs.Prelude.{◌≡◌, true, false, not, ◌&&◌, ◌+◌, ◌*◌, ◌≤◌, ◌<◌, eqb, ltb, get_or, length};
-ghost use Rattle.model.specs.Places.{pick, bit, any};
-ghost use Rattle.graph.specs.declared.Graph.{Graph};
+ghost use Rattle.model.specs.Places.{pick, any};
 ghost use Rattle.graph.specs.Model.{as_model};
 ghost use Rattle.graph.specs.File.{records};
+ghost use Rattle.reader.specs.Laid.{Usable};
 ghost use Rattle.vset.specs.Members.{is_in, Members};
-ghost use Rattle.sets.specs.Sets.{Holds};
-ghost use Rattle.rows.specs.Rows.{predecessor};
 ghost use Rattle.waiting.specs.Waiting.{edges_by, Layout, Settled};
 ghost use Rattle.recorded.specs.Log.{InForm};
 ghost use Rattle.formed.specs.Passing.{Lasted};
-ghost use Rattle.frames.specs.Frames.{Lists, LentOf, Framed, idles, MovedBy, FaultsBy, PassedBy};
+ghost use Rattle.frames.specs.Frames.{Lists, Framed, idles, MovedBy, FaultsBy, PassedBy};
 
+use reader::Laid;
 use vset::Vset;
 
 #[derive(Clone, Copy)]
@@ -40,12 +39,12 @@ pub struct Moved {
     pub crowded: bool,
 }
 
-// The first starts of 19 and of 20, or as many as there are records; the first instant of 22, or the last of all.
+// The first starts of 19 and of 20, and the first instant of 22.
 #[derive(Clone, Copy)]
 pub struct Faults {
-    pub early: usize,
-    pub crowded: usize,
-    pub idle: usize,
+    pub early: Option<usize>,
+    pub crowded: Option<usize>,
+    pub idle: Option<usize>,
 }
 
 // A pass between two records: how it stands, what is found, and the instant of the record before.
@@ -54,13 +53,6 @@ pub struct Pass {
     pub frame: Frame,
     pub faults: Faults,
     pub clock: usize,
-}
-
-// 2 where `b` holds, else 0.
-fn two(b: bool) -> u8
-    ensures { (result ≡ 2 * bit b) × (result ≤ 2) }
-{
-    if b { 2 } else { 0 }
 }
 
 // Those of a kind, in or out.
@@ -95,60 +87,52 @@ fn ended(
     }
     let rest = vset::without(busy, v);
     let done = vset::minus(vset::with(vset::none(), v), behind);
-    let hind = waiting::settle(edge, starts, waiting, rest, behind, done);
     Rest {
         busy: rest,
-        behind: hind,
+        behind: waiting::settle(edge, starts, waiting, rest, behind, done),
     }
 }
 
 // One record more.
 fn advance(
     log: &[u8],
-    n: usize,
+    laid: &Laid,
     k: usize,
-    kind: &[u8; 128],
-    cores: &[u8; 10],
     words: &[u64; 20],
-    edge: &[u16; 1024],
-    starts: &[u16; 129],
     lasts: &[u16; 128],
     used: &mut [u8; 10],
     waiting: &mut [u8; 128],
     f: Frame,
 ) -> Moved
-    requires lists { Lists n log.now kind.now words.now edge.now starts.now lasts.now }
+    requires lists { Lists laid.now log.now words.now lasts.now }
     requires k_bound { k < records log.now }
-    requires framed { Framed n log.now kind.now cores.now edge.now starts.now k used.old waiting.old f }
-    ensures { MovedBy n log.now kind.now cores.now edge.now starts.now k used.new waiting.new result }
+    requires framed { Framed laid.now log.now k used.old waiting.old f }
+    ensures { MovedBy laid.now log.now k used.new waiting.new result }
 {
     let v = records::byte(log, k, 1);
     let start = formed::starts(log, k);
-    let s = kind[v] as usize;
-    let most = cores[s];
-    let many = used[s] + two(start) - 1;
+    let s = laid.graph.kind[v] as usize;
+    let most = laid.graph.cores[s];
+    let many = used[s] + 2 * u8::from(start) - 1;
     used[s] = many;
     let on = formed::switched(f.on, v, start);
     let full = shifted(f.full, choice::set_at(words, s), most <= many);
     let rest = ended(
-        edge,
-        starts,
+        &laid.graph.edge,
+        &laid.starts,
         waiting,
         f.busy,
         f.behind,
         v,
         lasts[v] as usize == k + 1,
     );
-    let busy = rest.busy;
-    let behind = rest.behind;
-    let frame = Frame {
-        on,
-        busy,
-        behind,
-        full,
-    };
     Moved {
-        frame,
+        frame: Frame {
+            on,
+            busy: rest.busy,
+            behind: rest.behind,
+            full,
+        },
         crowded: start & (most < many),
     }
 }
@@ -162,23 +146,14 @@ fn waits(f: Frame) -> bool
     !vset::is_empty(vset::minus(apart, f.full))
 }
 
-// The first place, where `x` is the first below `k`, or `k`: the places from `k` up to `then` are all as `here` says.
-fn first_by(x: usize, k: usize, here: bool, then: usize) -> usize
-    ensures { result ≡ pick (eqb x k && not here) then x }
-{
-    if (x == k) & !here { then } else { x }
-}
-
 // The vertices that have a record.
 fn with_records(lasts: &[u16; 128]) -> Vset
     requires { length lasts.now ≡ 128 }
     ensures { Members result (λ v. ltb 0 (get_or lasts.now v 0)) }
 {
     let mut got = vset::none();
-    let mut v = 0usize;
-    while v < 128 {
-        got = vset::with_if(got, v, 0 < lasts[v]);
-        v += 1;
+    for (v, last) in lasts.iter().enumerate() {
+        got = vset::with_if(got, v, 0 < *last);
     }
     got
 }
@@ -186,47 +161,33 @@ fn with_records(lasts: &[u16; 128]) -> Vset
 // One record more: what stands before it tells 19 and 22, what stands after it 20.
 fn step(
     log: &[u8],
-    n: usize,
+    laid: &Laid,
     k: usize,
-    kind: &[u8; 128],
-    cores: &[u8; 10],
     words: &[u64; 20],
-    edge: &[u16; 1024],
-    starts: &[u16; 129],
     lasts: &[u16; 128],
     used: &mut [u8; 10],
     waiting: &mut [u8; 128],
     p: Pass,
 ) -> Pass
-    requires lists { Lists n log.now kind.now words.now edge.now starts.now lasts.now }
+    requires lists { Lists laid.now log.now words.now lasts.now }
     requires k_bound { k < records log.now }
-    requires passed_by { PassedBy n log.now kind.now cores.now edge.now starts.now k used.old waiting.old p }
-    ensures { PassedBy n log.now kind.now cores.now edge.now starts.now (k + 1) used.new waiting.new result }
+    requires passed_by { PassedBy laid.now log.now k used.old waiting.old p }
+    ensures { PassedBy laid.now log.now (k + 1) used.new waiting.new result }
 {
     let f = p.frame;
     let old = p.faults;
     let v = records::byte(log, k, 1);
     let t = records::word(log, k);
-    let early = first_by(
-        old.early,
-        k,
-        formed::starts(log, k) & vset::test(f.behind, v),
-        k + 1,
-    );
-    let idle = first_by(old.idle, p.clock, waits(f), t);
-    let next = advance(
-        log, n, k, kind, cores, words, edge, starts, lasts, used, waiting, f,
-    );
-    let crowded = first_by(old.crowded, k, next.crowded, k + 1);
-    let frame = next.frame;
-    let faults = Faults {
-        early,
-        crowded,
-        idle,
-    };
+    let blocked = formed::starts(log, k) & vset::test(f.behind, v);
+    let waited = waits(f) & (p.clock < t);
+    let next = advance(log, laid, k, words, lasts, used, waiting, f);
     Pass {
-        frame,
-        faults,
+        frame: next.frame,
+        faults: Faults {
+            early: old.early.or(blocked.then_some(k)),
+            crowded: old.crowded.or(next.crowded.then_some(k)),
+            idle: old.idle.or(waited.then_some(p.clock)),
+        },
         clock: t,
     }
 }
@@ -234,20 +195,18 @@ fn step(
 // Before the first record.
 fn outset(busy: Vset, behind: Vset) -> Pass
     ensures busy_value { (result.frame.busy ≡ busy) × (result.frame.behind ≡ behind) × Members result.frame.on (λ v. false) × Members result.frame.full (λ v. false) }
-    ensures faults_value { (result.faults ≡ record { early = 0; crowded = 0; idle = 0 }) × (result.clock ≡ 0) }
+    ensures faults_value { (result.faults ≡ record { early = None; crowded = None; idle = None }) × (result.clock ≡ 0) }
 {
-    let on = vset::none();
-    let full = vset::none();
     let frame = Frame {
-        on,
+        on: vset::none(),
         busy,
         behind,
-        full,
+        full: vset::none(),
     };
     let faults = Faults {
-        early: 0,
-        crowded: 0,
-        idle: 0,
+        early: None,
+        crowded: None,
+        idle: None,
     };
     Pass {
         frame,
@@ -256,44 +215,20 @@ fn outset(busy: Vset, behind: Vset) -> Pass
     }
 }
 
-pub fn first_faults(
-    log: &[u8],
-    n: usize,
-    cores: &[u8; 10],
-    kind: &[u8; 128],
-    pred: &[[u64; 2]; 128],
-    edge: &[u16; 1024],
-    starts: &[u16; 129],
-    lasts: &[u16; 128],
-) -> Faults
-    requires lent_of { (g : Graph) × LentOf g n cores.now kind.now edge.now starts.now × Holds pred.now (predecessor g.edge g.edges) }
-    requires in_form { InForm n log.now × Lasted log.now (records log.now) lasts.now }
-    ensures { (g : Graph) → LentOf g n cores.now kind.now edge.now starts.now → FaultsBy (as_model g) log.now (records log.now) result }
+pub fn first_faults(log: &[u8], laid: &Laid, lasts: &[u16; 128]) -> Faults
+    requires usable { Usable laid.now }
+    requires in_form { InForm laid.now.graph.n log.now × Lasted log.now (records log.now) lasts.now }
+    ensures { FaultsBy (as_model laid.now.graph) log.now (records log.now) result }
 {
-    let m = log.len() / 8;
-    let words = choice::of_kinds(kind, n);
+    let g = &laid.graph;
+    let words = choice::of_kinds(&g.kind, g.n);
     let busy = with_records(lasts);
-    let begun = waiting::begun(pred, edge, starts, n, busy);
+    let begun = waiting::begun(&laid.pred, &g.edge, &laid.starts, g.n, busy);
     let mut waiting = begun.waiting;
     let mut used = [0u8; 10];
     let mut p = outset(busy, begun.behind);
-    let mut k = 0usize;
-    while k < m {
-        p = step(
-            log,
-            n,
-            k,
-            kind,
-            cores,
-            &words,
-            edge,
-            starts,
-            lasts,
-            &mut used,
-            &mut waiting,
-            p,
-        );
-        k += 1;
+    for k in 0..log.len() / 8 {
+        p = step(log, laid, k, &words, lasts, &mut used, &mut waiting, p);
     }
     p.faults
 }

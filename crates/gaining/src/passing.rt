@@ -1,19 +1,14 @@
 // The best path that passes each place of the order: one that has no vertex there. A part of a path weighs no more than the path, so parts count
 // as well, and no source or sink is looked for. One that passes a place ends before it, or goes on from a vertex after it: that best sum is kept
 // along the order with the vertex where it goes on, and looked for anew only where that vertex is reached.
-ghost use Rattle.std.specs.Prelude.{◌≡◌, ℕ, ◌+◌, ◌≤◌, ◌<◌, max, get_or, length};
+ghost use Rattle.std.specs.Prelude.{◌≡◌, ℕ, ◌+◌, ◌≤◌, ◌<◌, get_or, length};
 ghost use Rattle.summary.specs.Row as row;
 ghost use Rattle.gaining.specs.Passing.{higher_of, onward, TopFrom, Led};
 
 use summary::row::{many, nth};
 
-pub(crate) fn larger(a: u64, b: u64) -> u64
-    ensures { result ≡ max a b }
-{
-    if a < b { b } else { a }
-}
-
-// The largest of some sums, and the vertex that it is of.
+// The largest of some sums, and the vertex that it is of; 128 where no sum is above 0. An Option would be no plainer: each
+// comparison would have to open it first.
 #[derive(Clone, Copy)]
 pub struct Top {
     pub most: u64,
@@ -24,9 +19,10 @@ fn higher(top: Top, sum: u64, vertex: usize) -> Top
     ensures { result ≡ higher_of top sum vertex }
 {
     if top.most < sum {
-        return Top { most: sum, vertex };
+        Top { most: sum, vertex }
+    } else {
+        top
     }
-    top
 }
 
 // The largest of the sums of the vertices from a place on.
@@ -39,11 +35,9 @@ pub(crate) fn anew(order: &[u8; 128], sums: &[u64; 128], from: usize, n: usize) 
         most: 0,
         vertex: 128,
     };
-    let mut q = from;
-    while q < n {
+    for q in from..n {
         let x = order[q] as usize;
         top = higher(top, sums[x], x);
-        q += 1;
     }
     top
 }
@@ -78,15 +72,12 @@ pub(crate) fn lead(
     ensures told { row.Told edge.now start.now (onward starting.now sum) u (row.many start.now u) best.old best.new }
     ensures led { Led edge.now start.now (onward starting.now sum) u (row.many start.now u) top result }
 {
-    let count = many(start, u);
     let mut next = top;
-    let mut k: usize = 0;
-    while k < count {
+    for k in 0..many(start, u) {
         let x = nth(edge, start, u, k);
         let on = sum + starting[x];
-        best[x] = larger(best[x], on);
+        best[x] = best[x].max(on);
         next = higher(next, on, x);
-        k += 1;
     }
     next
 }

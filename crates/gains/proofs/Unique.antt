@@ -9,7 +9,7 @@ use Rattle.model.specs.Graph.{Graph}
 use Rattle.model.proofs.Gains.{gain_unique}
 use Rattle.graph.specs.declared.Graph as reader
 use Rattle.gains.specs.Answers.{GainedIn, narrow, found, GainsOf, refused, accepted, AlteredIn, no_vertex, too_long, altered, AlteredOf}
-use Rattle.gains.specs.declared.Gained.{Gained}
+use Rattle.gains.specs.Gained.{Gained}
 
 pub gained_in_unique : {G : Graph} {old : List ℕ} {r r' : Gained} {new new' : List ℕ} → GainedIn G old r new → GainedIn G old r' new' → (r ≡ r') × (new ≡ new')
 gained_in_unique (narrow l) (narrow m) = (refl, refl)

@@ -7,6 +7,7 @@
 --                                record where x is above the limit; else the gains of the altered graph
 --   AlteredOf s v x old r new    the answer of `gains_altered`: the reader's refusal, or that
 --   of_gained r                   the answer in document 01's numbers: its value is how many vertices there are
+use Rattle.std.specs.Prelude.{Ok, Err}
 use Rattle.std.specs.Prelude.{◌≡◌, List, ◌++◌, ℕ, ◌+◌, ◌≤◌, ◌<◌, length, get_or, drop}
 use Rattle.model.specs.Graph.{Graph}
 use Rattle.model.specs.Gain.{with_wcet, GainOf}
@@ -15,9 +16,9 @@ use Rattle.graph.specs.Judge.{read_of}
 use Rattle.graph.specs.Said.{Said, said_no}
 use Rattle.graph.specs.declared.Graph as reader
 use Rattle.graph.specs.declared.Refusal.{Refusal}
-use Rattle.graph.specs.declared.Answer.TheVariants.{Accepted, Refused}
-use Rattle.gains.specs.declared.Gained.{Gained}
-use Rattle.gains.specs.declared.Gained.TheVariants.{Vertices, Refused as NoGains}
+use Rattle.graph.specs.Answer.{Accepted, Refused}
+use Rattle.gains.specs.Gained.{Gained}
+use Rattle.gains.specs.Gained.{Vertices, Refused as NoGains}
 
 pub data GainedIn (G : Graph) (old : List ℕ) : Gained → List ℕ → Type 0 where
   narrow : length old < G.n → GainedIn G old (NoGains (record { number = 15; place = 0 })) old
@@ -37,5 +38,5 @@ pub data AlteredOf (s : List ℕ) (v x : ℕ) (old : List ℕ) : Gained → List
   accepted : {r : Gained} {new : List ℕ} → (read_of s).answer ≡ Accepted → AlteredIn (read_of s).graph v x old r new → AlteredOf s v x old r new
 
 abbrev pub of_gained : Gained → Said
-of_gained (Vertices n) = record { number = 0; place = 0; value = n }
-of_gained (NoGains r) = said_no r
+of_gained (Ok n) = record { number = 0; place = 0; value = n }
+of_gained (Err r) = said_no r

@@ -1,3 +1,2 @@
+pub mod Gained
 pub mod Answers
--- What only private functions speak of.
-pub mod Lists

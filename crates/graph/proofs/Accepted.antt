@@ -22,7 +22,7 @@ use Rattle.graph.specs.Model.{from, to, joins, as_model, AcceptedGraph}
 use Rattle.graph.specs.Rules.{holds, places, rule2, rule3, rule4, rule5, rule6, rule7, rule8, rule9, rule10, rule11}
 use Rattle.graph.specs.Judge.{judge_from, Rightly, read_of}
 use Rattle.graph.specs.declared.Refusal.{Refusal}
-use Rattle.graph.specs.declared.Answer.TheVariants.{Accepted, Refused}
+use Rattle.graph.specs.Answer.{Accepted, Refused}
 use Rattle.graph.proofs.Judging.{none-holds, rightly, all_fit}
 use Rattle.graph.proofs.Orders.{kind-record, vertex-record, edge-record}
 

@@ -15,7 +15,7 @@ use Rattle.graph.specs.File.{records, byte_at, order, is_order, many}
 use Rattle.graph.specs.Rules.{holds, per_record_of, places, rule1}
 use Rattle.graph.specs.Judge.{place_of, applies, lowest, judge_from, Rightly}
 use Rattle.graph.specs.declared.Refusal.{Refusal}
-use Rattle.graph.specs.declared.Answer.TheVariants.{Accepted, Refused}
+use Rattle.graph.specs.Answer.{Accepted, Refused}
 
 -- a number that does not apply holds for no place
 pub not-applies : (s : List ℕ) (num : ℕ) → applies s num ≡ false → (k : ℕ) → k < places s num → holds s num k ≡ false

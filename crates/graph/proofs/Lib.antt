@@ -3,3 +3,5 @@ pub mod Judging
 pub mod Orders
 pub mod Accepted
 pub mod Edges
+pub mod Answers
+pub mod Outcomes

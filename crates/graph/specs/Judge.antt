@@ -8,15 +8,16 @@
 --   Rightly a s r        r is the lowest number from a on that applies, with the first place that it holds for
 --   taken_from a s        that answer, and the graph beside it
 --   read_of s             what `read` gives for the file s
+use Rattle.std.specs.Prelude.{Ok, Err}
 use Rattle.std.specs.Prelude.{◌≡◌, Bool, true, false, List, ℕ, ◌+◌, ◌-◌, ◌≤◌, ◌<◌, ltb}
 use Rattle.model.specs.Places.{pick, first}
 use Rattle.graph.specs.File.{graph_of, no_graph_of}
 use Rattle.graph.specs.Rules.{holds, places}
 use Rattle.graph.specs.declared.Refusal.{Refusal}
-use Rattle.graph.specs.declared.Answer.{Answer}
-use Rattle.graph.specs.declared.Answer.TheVariants.{Accepted, Refused}
+use Rattle.graph.specs.Answer.{Answer}
+use Rattle.graph.specs.Answer.{Accepted, Refused}
 use Rattle.graph.specs.declared.Graph.{Graph}
-use Rattle.graph.specs.declared.Taken.{Taken}
+use Rattle.graph.specs.Answer.{Taken}
 
 unfoldable pub place_of : List ℕ → ℕ → ℕ
 place_of s num = first (holds s num) (places s num)
@@ -39,8 +40,8 @@ pub record Rightly (a : ℕ) (s : List ℕ) (r : Refusal) : Type 0 where
   pub no_lower : (num k : ℕ) → a ≤ num → num < r.number → k < places s num → holds s num k ≡ false
 
 abbrev pub graph_beside : Answer → List ℕ → Graph
-graph_beside Accepted s = graph_of s
-graph_beside (Refused r) s = no_graph_of
+graph_beside (Ok _) s = graph_of s
+graph_beside (Err r) s = no_graph_of
 
 abbrev pub taken_from : ℕ → List ℕ → Taken
 taken_from a s = record { answer = judge_from a s; graph = graph_beside (judge_from a s) s }

@@ -1,18 +1,25 @@
-// The graph of a file, and the answers that every entry of the planner shares. The reader that makes one is `reader`.
+// The graph of a file, and the refusal that every entry of the planner shares. The reader that makes a graph is `reader`.
 
 #![tactic(auto)]
 
-// What an answer says no with: document 01's number, and the place of the record, vertex or instant at fault.
-#[derive(Clone, Copy)]
+ghost use Rattle.std.specs.Prelude.{◌≡◌};
+ghost use Rattle.graph.specs.Answer.{at_0};
+
+// What an entry says no with: document 01's number, and the place of the record, vertex or instant at fault. The numbers are the users' own
+// and C's, and theorems count with them: so they are numbers here, and no enum.
+#[derive(Clone, Copy, PartialEq, Eq, Debug)]
 pub struct Refusal {
     pub number: u32,
     pub place: u32,
 }
 
-#[derive(Clone, Copy)]
-pub enum Answer {
-    Accepted,
-    Refused(Refusal),
+impl Refusal {
+    // A number that is said of no record, vertex or instant has place 0.
+    pub fn whole(number: u32) -> Refusal
+        ensures { result ≡ at_0 number }
+    {
+        Refusal { number, place: 0 }
+    }
 }
 
 // Counts and lists of a graph; unused places are zero. An edge is from * 256 + to.
@@ -26,11 +33,4 @@ pub struct Graph {
     pub kind: [u8; 128],
     pub wcet: [u32; 128],
     pub edge: [u16; 1024],
-}
-
-// The reader's answer and graph; beside a refusal the graph is zero throughout.
-#[derive(Clone, Copy)]
-pub struct Taken {
-    pub answer: Answer,
-    pub graph: Graph,
 }

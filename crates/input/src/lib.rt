@@ -12,12 +12,12 @@ use std::env::FillError;
 use std::io::{Cursor, Error, Read, Write};
 use std::rt::{Env, Files};
 
-// The exit status: an answer, a no of the planner, trouble.
-pub const ANSWER: u8 = 0;
-
-pub const NO: u8 = 1;
-
-pub const TROUBLE: u8 = 2;
+// Why there is no answer: the planner says no, or there is trouble. It has been said which.
+#[derive(Clone, Copy, Debug, PartialEq, Eq)]
+pub enum Failure {
+    No,
+    Trouble,
+}
 
 // The system's numbers for an argument that is not there, for one that is too long, and for a name that it doesn't take.
 const EINVAL: i32 = 22;
@@ -26,21 +26,12 @@ const ENAMETOOLONG: i32 = 36;
 
 const EILSEQ: i32 = 84;
 
-// Whether it could be read, and how many bytes it has: the room's length where it has that many or more.
-#[derive(Clone, Copy)]
-pub struct Input {
-    pub good: bool,
-    pub n: usize,
-}
-
 // How many bytes of it stand before the number that std puts behind the system's words.
 fn words(t: &[u8]) -> usize {
-    for n in 0..t.len() {
-        if t[n] == b'(' {
-            return n.saturating_sub(1);
-        }
+    match t.iter().position(|b| *b == b'(') {
+        Some(n) => n.saturating_sub(1),
+        None => t.len(),
     }
-    t.len()
 }
 
 // Says why, in the system's words.
@@ -53,34 +44,37 @@ fn reason(why: Error) -> bool {
 }
 
 // Says what failed, and why the system says that it did.
-pub fn trouble(what: &[u8], why: Error) -> u8 {
+pub fn trouble(what: &[u8], why: Error) -> Failure {
     io::write_all(2, b"plan: ");
     io::write_all(2, what);
     io::write_all(2, b": ");
     reason(why);
     io::write_all(2, b"\n");
-    TROUBLE
+    Failure::Trouble
 }
 
-// The status where all has been written; else trouble, and what went wrong is said.
-pub fn status(written: bool, meant: u8) -> u8 {
+// The answer where all of it has been written; else trouble, and what went wrong is said.
+pub fn answer(written: bool) -> Result<(), Failure> {
     if written {
-        return meant;
+        return Ok(());
     }
-    trouble(b"standard output", std_io::io::last_error())
+    Err(trouble(b"standard output", std_io::io::last_error()))
+}
+
+// A no where all of it has been written, else trouble.
+pub fn no(written: bool) -> Failure {
+    match answer(written) {
+        Ok(()) => Failure::No,
+        Err(failure) => failure,
+    }
 }
 
 // Says what is wrong with the words of the command.
-pub fn wrong(what: &[u8]) -> u8 {
+pub fn wrong(what: &[u8]) -> Failure {
     io::write_all(2, b"plan: ");
     io::write_all(2, what);
     io::write_all(2, b"; see 'plan help'\n");
-    TROUBLE
-}
-
-fn unread(name: &[u8], why: Error) -> Input {
-    trouble(name, why);
-    Input { good: false, n: 0 }
+    Failure::Trouble
 }
 
 // Some bytes more.
@@ -90,53 +84,44 @@ fn some<R: Read>(from: &mut R, room: &mut [u8]) -> Result<usize, Error>
     from.read(room)
 }
 
-fn fill<R: Read>(from: &mut R, name: &[u8], room: &mut [u8]) -> Input {
+fn fill<R: Read>(from: &mut R, name: &[u8], room: &mut [u8]) -> Result<usize, Failure> {
     let mut n = 0;
     while n < room.len() {
         match some(from, &mut room[n..]) {
-            Err(why) => return unread(name, why),
-            Ok(got) => {
-                if got == 0 {
-                    return Input { good: true, n };
-                }
-                n += got;
-            }
+            Err(why) => return Err(trouble(name, why)),
+            Ok(0) => return Ok(n),
+            Ok(got) => n += got,
         }
     }
-    Input { good: true, n }
+    Ok(n)
 }
 
 // Whether a name stands for standard input.
 fn standard(name: &[u8]) -> bool {
-    if name.len() == 1 {
-        return name[0] == b'-';
-    }
-    false
+    texts::equal(name, b"-")
 }
 
 // A name as a path, which is UTF-8.
 pub fn path(name: &[u8]) -> Result<&str, Error> {
-    match std::str::from_utf8(name) {
-        Ok(path) => Ok(path),
-        Err(_) => Err(Error::from_raw_os_error(EILSEQ)),
-    }
+    std::str::from_utf8(name).map_err(|_| Error::from_raw_os_error(EILSEQ))
 }
 
 fn opened<R: Files>(rt: &R, name: &[u8]) -> Result<R::File, Error> {
-    match path(name) {
-        Ok(path) => std::fs::open(rt, path),
-        Err(why) => Err(why),
-    }
+    std::fs::open(rt, path(name)?)
 }
 
 // Reads what a name stands for.
-fn take(rt: &(impl Files + std::io::Input), name: &[u8], room: &mut [u8]) -> Input {
+fn take(
+    rt: &(impl Files + std::io::Input),
+    name: &[u8],
+    room: &mut [u8],
+) -> Result<usize, Failure> {
     if standard(name) {
         return fill(&mut rt.reader(), name, room);
     }
     match opened(rt, name) {
         Ok(mut file) => fill(&mut file, name, room),
-        Err(why) => unread(name, why),
+        Err(why) => Err(trouble(name, why)),
     }
 }
 
@@ -149,20 +134,21 @@ pub fn taken(rt: &impl Env, k: usize, room: &mut [u8]) -> Result<usize, Error> {
     }
 }
 
-// The same: whether all of it is in the room, and its length.
-pub fn argument(rt: &impl Env, k: usize, room: &mut [u8]) -> Input {
-    match taken(rt, k, room) {
-        Ok(n) => Input { good: true, n },
-        Err(_) => Input { good: false, n: 0 },
-    }
+// The same, where it doesn't matter why not.
+pub fn argument(rt: &impl Env, k: usize, room: &mut [u8]) -> Option<usize> {
+    rt.arg(k, room).ok()
 }
 
-// Reads what argument k names. Where that can't be done, it has been said why.
-pub fn read(rt: &(impl Env + Files + std::io::Input), k: usize, room: &mut [u8]) -> Input {
+// Reads what argument k names: how many bytes it has, or the room's length where it has that many or more. Where that can't be done, it has been said why.
+pub fn read(
+    rt: &(impl Env + Files + std::io::Input),
+    k: usize,
+    room: &mut [u8],
+) -> Result<usize, Failure> {
     let mut name = io::buffer();
     match taken(rt, k, &mut name) {
         Ok(n) => take(rt, texts::part(&name, 0, n), room),
-        Err(why) => unread(b"a name", why),
+        Err(why) => Err(trouble(b"a name", why)),
     }
 }
 

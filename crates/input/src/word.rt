@@ -1,51 +1,37 @@
 // An argument as it stands: one word, a number of 32 bits, or the name or number of something that a board text names.
 
+use faults::Wrong;
+use texts::Sought;
+
 // Whether it is one word, or nothing: only such a one can be a name or a number.
-pub fn is_one(w: &[u8]) -> bool {
-    texts::until(w, 0, texts::END) == w.len()
+fn is_one(w: &[u8]) -> bool {
+    texts::until(w, 0, Sought::End) == w.len()
 }
 
-// The row of what is wrong with it as a number.
-pub fn fault(w: &[u8]) -> usize {
+// It as a number, or what is wrong with it as one.
+pub fn number(w: &[u8]) -> Result<u32, Wrong> {
     if !is_one(w) {
-        return faults::NO_NUMBER;
+        return Err(Wrong::NoNumber);
     }
-    let f = faults::of_number(w, 0, 4294967295);
-    f.row
+    Ok(texts::number(w, 0)?)
 }
 
-pub fn number(w: &[u8]) -> u32 {
-    (texts::number(w, 0) % 4294967296) as u32
-}
-
-// The row of what is wrong, and where nothing is the number.
-#[derive(Clone, Copy)]
-pub struct Meant {
-    pub row: usize,
-    pub number: u32,
-}
-
-// Which of the n names that stand at these places of the text it is; n where it is none.
-fn called(t: &[u8], places: &[usize], n: usize, w: &[u8]) -> usize {
+// Which of the n names that stand at these places of the text it is.
+fn called(t: &[u8], places: &[usize], n: usize, w: &[u8]) -> Option<usize> {
     if !is_one(w) {
-        return n;
+        return None;
     }
     texts::find(t, places, n, w, 0)
 }
 
 // What it names: the one that is called so, else the one of this number. Whether the graph has it is for the planner to say: a word that could be a name, and
 // is none of the board text's, is one past the last.
-pub fn named(t: &[u8], places: &[usize], n: usize, w: &[u8]) -> Meant {
-    let i = called(t, places, n, w);
-    let row = fault(w);
-    if (i < n) | ((row == faults::NO_NUMBER) & (n > 0)) {
-        return Meant {
-            row: faults::FINE,
-            number: (i % 4294967296) as u32,
-        };
+pub fn named(t: &[u8], places: &[usize], n: usize, w: &[u8]) -> Result<u32, Wrong> {
+    if let Some(i) = called(t, places, n, w) {
+        return Ok((i % 4294967296) as u32);
     }
-    Meant {
-        row,
-        number: number(w),
+    match number(w) {
+        Err(Wrong::NoNumber) if n > 0 => Ok((n % 4294967296) as u32),
+        meant => meant,
     }
 }

@@ -17,18 +17,15 @@ fn runs_on(log: &[u8], n: usize, k: usize) -> bool
     requires { (k < records log.now) × (n ≤ 128) × InForm n log.now }
     ensures { result ≡ runs_on_of log.now k }
 {
-    let m = log.len() / 8;
     let v = records::byte(log, k, 1);
     let t = records::word(log, k);
-    let mut i = k + 1;
-    while i < m {
+    for i in k + 1..log.len() / 8 {
         if records::word(log, i) != t {
             return false;
         }
         if formed::starts(log, i) & (records::byte(log, i, 1) == v) {
             return true;
         }
-        i += 1;
     }
     false
 }
@@ -52,25 +49,21 @@ fn busy(kind: &[u8; 128], core: &[u8; 128], n: usize, held: Vset, s: u8) -> Vset
     ensures { Members result (taken (is_in held) (listed core.now) (listed kind.now) n s) }
 {
     let mut got = vset::none();
-    let mut u = 0usize;
-    while u < n {
+    for u in 0..n {
         got = vset::with_if(got, core[u] as usize, vset::test(held, u) & (kind[u] == s));
-        u += 1;
     }
     got
 }
 
-// The lowest of `m` cores that is free.
+// The lowest of `m` cores that is free, or `m`: a number and not an Option, since `core_of` (specs/Lanes) takes it as it is.
 fn lowest_free(busy: Vset, m: usize) -> usize
     requires { m ≤ 16 }
     ensures { (result ≡ first (λ j. not (is_in busy j)) m) × (result ≤ 16) }
 {
-    let mut j = 0usize;
-    while j < m {
+    for j in 0..m {
         if !vset::test(busy, j) {
             return j;
         }
-        j += 1;
     }
     m
 }
@@ -104,16 +97,13 @@ pub fn name(log: &[u8], n: usize, kind: &[u8; 128], cores: &[u8; 10], out: &mut 
     requires log_in_bounds { records log.now ≤ length out.old }
     ensures { out.new ≡ lanes_of n log.now (listed kind.now) (listed cores.now) ++ drop (records log.now) out.old }
 {
-    let m = log.len() / 8;
     let mut core = [0u8; 128];
     let mut held = vset::none();
-    let mut k = 0usize;
-    while k < m {
+    for k in 0..log.len() / 8 {
         let v = records::byte(log, k, 1);
         let c = lane(log, n, k, kind, cores, &core, held);
         core[v] = c;
         out[k] = c;
         held = having(log, n, k, held);
-        k += 1;
     }
 }

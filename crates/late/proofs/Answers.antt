@@ -1,5 +1,6 @@
 -- From NEW-B-1, or from a run that was played up to tick d, to what is told; and from what the reader took of a file to the entry's answer.
-use mathlib.Core.Path.{◌≡◌, sym, ap, ◌∙◌, subst}
+use Rattle.std.specs.Prelude.{Ok, Err}
+use mathlib.Core.Path.{◌≡◌, refl, sym, ap, ◌∙◌, subst}
 use mathlib.Core.Bool.{true}
 use mathlib.Core.List.{List}
 use Prim.Native.Nat.{ℕ, ◌/◌, ◌≤◌, ◌<◌, min}
@@ -13,10 +14,10 @@ use Rattle.model.specs.ListSchedule.{begin}
 use Rattle.graph.specs.Model.{as_model, AcceptedGraph}
 use Rattle.graph.specs.declared.Graph.{Graph}
 use Rattle.graph.specs.declared.Refusal.{Refusal}
-use Rattle.graph.specs.declared.Answer.{Answer}
-use Rattle.graph.specs.declared.Answer.TheVariants.{Accepted, Refused}
-use Rattle.reader.specs.Laid.{graph_in, TakenInto}
-use Rattle.reader.specs.declared.Header.{Header}
+use Rattle.graph.specs.Answer.{Answer}
+use Rattle.graph.specs.Answer.{Accepted, Refused}
+use Rattle.reader.specs.Laid.{TakenInto}
+use Rattle.reader.specs.declared.Laid.{Laid}
 use Rattle.tick.specs.declared.Run.{Run}
 use Rattle.tick.specs.Run.{left_of, record_for}
 use Rattle.bounds.proofs.Computed.{new_found, new_b_1_computed}
@@ -26,8 +27,9 @@ use Rattle.leaps.proofs.Finishes.{finish-below-new}
 use Rattle.leaps.proofs.Instants.{left-start, fresh_start, nobody_left}
 use Rattle.times.specs.Times.{times_of, judge_times, Fitting}
 use Rattle.times.proofs.Fits.{none_past}
-use Rattle.late.specs.Answers.{Told, Nothing, judged_of, LateOf}
-use Rattle.late.specs.declared.Lateness.{Lateness}
+use Rattle.late.specs.Answers.{Told, judged_of, LateOf}
+use Rattle.late.specs.Lateness.{Lateness, lateness}
+use Rattle.late.specs.declared.Ending.{Ending}
 
 module _ (g : Graph) (A : AcceptedGraph g) (l : List ℕ) (fit : Fitting g l) (d : ℕ) where
   abbrev G : model.Graph
@@ -76,17 +78,17 @@ module _ (g : Graph) (A : AcceptedGraph g) (l : List ℕ) (fit : Fitting g l) (d
 
 -- ---- the entry
 
-module _ (s : List ℕ) {h : Header} {c k w e st o : List ℕ} (T : TakenInto s h c k w e st o) (l : List ℕ) (d : ℕ) (r : Lateness) where
-  pub late-unread : {x : Refusal} → h.answer ≡ Refused x → r.answer ≡ Refused x → Nothing r → LateOf s l d r
+module _ {s : List ℕ} {o : Laid} (l : List ℕ) (d : ℕ) where
+  pub late-unread : {x : Refusal} → TakenInto s (Refused x) o → LateOf s l d (lateness (Err x))
   unfolding judged_of
-  late-unread p q n = let a = sym T.answer ∙ p in record { answer = rw a q; said = rw a n }
+  late-unread T = let a = sym T.answer in record { answer = rw a refl; said = rw a (record { yes = refl; played = refl }) }
 
-  judged : h.answer ≡ Accepted → {a : Answer} → judge_times (graph_in h c k w e) l ≡ a → judged_of s l ≡ a
+  judged : TakenInto s Accepted o → {a : Answer} → judge_times o.graph l ≡ a → judged_of s l ≡ a
   unfolding judged_of
-  judged p j = let a = sym T.answer ∙ p in rw (a, ← (T.laid a).graph) j
+  judged T j = let a = sym T.answer in rw (a, ← (T.laid a).graph) j
 
-  pub late_untimed : h.answer ≡ Accepted → {x : Refusal} → judge_times (graph_in h c k w e) l ≡ Refused x → r.answer ≡ Refused x → Nothing r → LateOf s l d r
-  late_untimed p j q n = let a = judged p j in record { answer = q ∙ sym a; said = rw a n }
+  pub late_untimed : {x : Refusal} → TakenInto s Accepted o → judge_times o.graph l ≡ Refused x → LateOf s l d (lateness (Err x))
+  late_untimed T j = let a = judged T j in record { answer = sym a; said = rw a (record { yes = refl; played = refl }) }
 
-  pub late-told : h.answer ≡ Accepted → judge_times (graph_in h c k w e) l ≡ Accepted → r.answer ≡ Accepted → Told (as_model (graph_in h c k w e)) (times_of l) d r → LateOf s l d r
-  late-told p j q t = let a = judged p j in record { answer = q ∙ sym a; said = rw a (rw (T.laid (sym T.answer ∙ p)).graph at t) }
+  pub late-told : {t : Ending} → TakenInto s Accepted o → judge_times o.graph l ≡ Accepted → Told (as_model o.graph) (times_of l) d (lateness (Ok t)) → LateOf s l d (lateness (Ok t))
+  late-told T j t = let a = judged T j in record { answer = sym a; said = rw a (rw (T.laid (sym T.answer)).graph at t) }

@@ -7,6 +7,7 @@
 --   Beside a G e d r    what stands beside the answer a: what is told, or nothing
 --   judged_of s e        "Refusals: those of a run, without 15": the reader's, then 13 and 14
 --   LateOf s e d r      the answer of `late`
+use Rattle.std.specs.Prelude.{Ok, Err}
 use Rattle.std.specs.Prelude.{◌≡◌, false, List, ℕ, ◌/◌, min, leb}
 use Rattle.model.specs.Places.{pick}
 use Rattle.model.specs.Graph.{Graph}
@@ -14,11 +15,11 @@ use Rattle.model.specs.Bounds.{PARTS, NewB1}
 use Rattle.graph.specs.Model.{as_model}
 use Rattle.graph.specs.Judge.{read_of}
 use Rattle.graph.specs.declared.Graph as reader
-use Rattle.graph.specs.declared.Answer.{Answer}
-use Rattle.graph.specs.declared.Answer.TheVariants.{Accepted, Refused}
+use Rattle.graph.specs.Answer.{Answer}
+use Rattle.graph.specs.Answer.{Refused}
 use Rattle.leaps.specs.Finishes.{finish_of}
 use Rattle.times.specs.Times.{times_of, judge_times}
-use Rattle.late.specs.declared.Lateness.{Lateness}
+use Rattle.late.specs.Lateness.{Lateness}
 
 pub record Told (G : Graph) (e : ℕ → ℕ) (d : ℕ) (r : Lateness) : Type 0 where
   -- yes exactly where the finish is at most d
@@ -33,12 +34,12 @@ pub record Nothing (r : Lateness) : Type 0 where
   pub played : r.played.0 ≡ 0
 
 abbrev pub Beside : Answer → Graph → (ℕ → ℕ) → ℕ → Lateness → Type 0
-Beside Accepted G e d r = Told G e d r
-Beside (Refused x) G e d r = Nothing r
+Beside (Ok _) G e d r = Told G e d r
+Beside (Err x) G e d r = Nothing r
 
 abbrev pub judged_after : Answer → reader.Graph → List ℕ → Answer
-judged_after Accepted g e = judge_times g e
-judged_after (Refused x) g e = Refused x
+judged_after (Ok _) g e = judge_times g e
+judged_after (Err x) g e = Refused x
 
 unfoldable pub judged_of : List ℕ → List ℕ → Answer
 judged_of s e = judged_after (read_of s).answer (read_of s).graph e

@@ -76,7 +76,7 @@ fn leap(
     let able = vset::minus(was_busy, was_behind);
     let on = choice::chosen(kinds, cores, words, able, m.ran);
     let fewest = remains::least(left, vset::minus(on, m.ran), m.least);
-    let d = remains::lesser(fewest, room);
+    let d = fewest.min(room);
     let spent = remains::lower(left, on, d);
     let done = spent.over;
     let ran = vset::minus(on, done);

@@ -20,9 +20,9 @@ use Rattle.model.proofs.That.{that-length, that_kth}
 use Rattle.graph.specs.Model.{as_model, AcceptedGraph}
 use Rattle.graph.specs.declared.Graph.{Graph}
 use Rattle.graph.specs.declared.Refusal.{Refusal}
-use Rattle.graph.specs.declared.Answer.{Answer}
-use Rattle.graph.specs.declared.Answer.TheVariants.{Accepted, Refused as No}
-use Rattle.graph.specs.declared.Taken.{Taken}
+use Rattle.graph.specs.Answer.{Answer}
+use Rattle.graph.specs.Answer.{Accepted, Refused as No}
+use Rattle.graph.specs.Answer.{Taken}
 use Rattle.graph.specs.Judge.{read_of}
 use Rattle.tick.specs.declared.Run.{Run}
 use Rattle.tick.specs.Run.{left_of, record_for}
@@ -40,8 +40,8 @@ use Rattle.recorded.proofs.Changes.{start_changes, stop_changes, change-of}
 use Rattle.recorded.proofs.Intervals.{Interval, interval, start_only, stop_only}
 use Rattle.sorting.specs.Sorted.{Holding}
 use Rattle.writer.specs.Write.{room_by}
-use Rattle.writer.specs.declared.Wrote.{Wrote}
-use Rattle.writer.specs.declared.Wrote.TheVariants.{Bytes, Refused}
+use Rattle.writer.specs.Wrote.{Wrote}
+use Rattle.writer.specs.Wrote.{Bytes, Refused}
 use Rattle.logs.specs.Keys.{start_key, stop_key, KeyOf, Gathered, BOUND}
 use Rattle.logs.specs.Answers.{log_for, logged_in, logged_on, logged_of, log_room}
 

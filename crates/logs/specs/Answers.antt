@@ -9,17 +9,18 @@
 --   logged_on g e room      the same, with 13 and 14 before
 --   logged_of s e room      what `log` returns for the file s: the reader's refusals come first
 --   log_room s e out        what the lent room, which held out, holds at the end
+use Rattle.std.specs.Prelude.{Ok, Err}
 use Rattle.std.specs.Prelude.{List, ℕ, length}
 use Rattle.graph.specs.Judge.{read_of}
 use Rattle.graph.specs.Model.{as_model}
 use Rattle.graph.specs.declared.Graph.{Graph}
-use Rattle.graph.specs.declared.Answer.{Answer}
-use Rattle.graph.specs.declared.Answer.TheVariants as answers
+use Rattle.graph.specs.Answer.{Answer}
+use Rattle.graph.specs.Answer as answers
 use Rattle.times.specs.Times.{times_of, judge_times}
 use Rattle.recorded.specs.LogOf.{log_of}
 use Rattle.writer.specs.Write.{wrote_by, room_by}
-use Rattle.writer.specs.declared.Wrote.{Wrote}
-use Rattle.writer.specs.declared.Wrote.TheVariants.{Refused}
+use Rattle.writer.specs.Wrote.{Wrote}
+use Rattle.writer.specs.Wrote.{Refused}
 
 unfoldable pub log_for : Graph → List ℕ → List ℕ
 log_for g e = log_of (as_model g) (times_of e)
@@ -31,8 +32,8 @@ unfoldable pub logged_on : Graph → List ℕ → ℕ → Wrote
 logged_on g e room = wrote_by (judge_times g e) (length (log_for g e)) room
 
 abbrev pub logged_after : Answer → Graph → List ℕ → ℕ → Wrote
-logged_after answers.Accepted g e room = logged_on g e room
-logged_after (answers.Refused r) g e room = Refused r
+logged_after (Ok _) g e room = logged_on g e room
+logged_after (Err r) g e room = Refused r
 
 unfoldable pub logged_of : List ℕ → List ℕ → ℕ → Wrote
 logged_of s e room = logged_after (read_of s).answer (read_of s).graph e room

@@ -8,7 +8,7 @@ ghost use Rattle.logs.specs.Keys.{BOUND};
 fn kind_of(key: u64) -> u8
     ensures { result ≡ pick (eqb (key / 256 % 2) 1) 0x53 0x50 }
 {
-    if key / 256 % 2 == 1 { 0x53 } else { 0x50 }
+    if key / 256 % 2 == 1 { b'S' } else { b'P' }
 }
 
 // The 8 bytes of the record with this key: the instant's low byte first.
@@ -18,11 +18,7 @@ fn record(key: u64) -> [u8; 8]
 {
     let kind = kind_of(key);
     let vertex = (key % 256) as u8;
-    let instant = key / 512;
-    let low = (instant % 256) as u8;
-    let second = (instant / 256 % 256) as u8;
-    let third = (instant / 65536 % 256) as u8;
-    let high = (instant / 16777216) as u8;
+    let [low, second, third, high] = ((key / 512) as u32).to_le_bytes();
     [kind, vertex, 0, 0, low, second, third, high]
 }
 
@@ -32,10 +28,8 @@ pub(crate) fn hand_over(keys: &[u64; 256], m: usize, out: &mut [u8])
     requires by_index { (i : ℕ) → i < m → place keys.now i < BOUND }
     ensures { out.new ≡ bytes_of (table (place keys.now) m) ++ drop (8 * m) out.old }
 {
-    let mut k = 0usize;
-    while k < m {
+    for k in 0..m {
         let r = record(keys[k]);
         copies::copy(&r, &mut out[8 * k..]);
-        k += 1;
     }
 }

@@ -1,4 +1,4 @@
-// The keys of the records, vertex by vertex.
+// The keys of the records, vertex by vertex. A record is one number and no struct, so that its order is that of numbers and no other is needed.
 ghost use Rattle.std.specs.Prelude.{◌≡◌, ℕ, ◌≤◌, ◌<◌, length};
 ghost use Rattle.times.specs.Times.{times_of};
 ghost use Rattle.remains.specs.Remains.{place};
@@ -11,16 +11,14 @@ pub(crate) fn gather(times: &[u32], n: usize, finishes: &[u32; 128], keys: &mut 
     ensures { Gathered (times_of times.now) (place finishes.now) n result keys.new }
 {
     let mut m = 0usize;
-    let mut v = 0usize;
-    while v < n {
-        let time = times[v] as u64;
+    for (v, time) in times.iter().enumerate() {
+        let time = *time as u64;
         if 0 < time {
             let stop = 512 * finishes[v] as u64 + v as u64;
             keys[m] = stop;
             keys[m + 1] = stop + 256 - 512 * time;
             m += 2;
         }
-        v += 1;
     }
     m
 }

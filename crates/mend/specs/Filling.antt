@@ -5,12 +5,12 @@
 --   Filled s room list r file listed   both buffers are filled, and r has the lengths
 --   Answered a s room list r file listed   the answer r, and what the buffers hold, where 1, 2 and 3 give a
 use Rattle.std.specs.Prelude.{◌≡◌, List, ◌++◌, ℕ, length, drop}
-use Rattle.graph.specs.declared.Answer.{Answer}
+use Rattle.graph.specs.Answer.{Answer}
 use Rattle.mends.specs.Mended.{mended_of}
 use Rattle.mends.specs.Listed.{list_of}
 use Rattle.mends.specs.Answers.{mend_by, held_by}
 use Rattle.mends.specs.declared.Sizes.{Sizes}
-use Rattle.mends.specs.declared.Mended.{Mended}
+use Rattle.mends.specs.Answers.{Mended}
 
 pub record Filled (s room list : List ℕ) (r : Sizes) (file listed : List ℕ) : Type 0 where
   pub sizes : r ≡ record { file = length (mended_of s); list = length (list_of s) }

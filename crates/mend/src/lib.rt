@@ -3,7 +3,7 @@
 
 ghost use Rattle.std.specs.Prelude.{◌≡◌, ◌*◌, ◌≤◌, length};
 ghost use Rattle.graph.specs.File.{records};
-ghost use Rattle.graph.specs.declared.Answer.TheVariants as answers;
+ghost use Rattle.graph.specs.Answer as answers;
 ghost use Rattle.mends.specs.Answers.{Mendable, mend_of, file_after, list_after_of};
 ghost use Rattle.mend.specs.Filling.{Filled, Answered};
 
@@ -11,8 +11,8 @@ mod judge;
 mod lay;
 mod note;
 
-use graph::{Answer, Refusal};
-use mends::{Mended, Sizes};
+use graph::Refusal;
+use mends::Sizes;
 
 // Mends a file into buffers that are long enough. The tables stand here, and are lent.
 fn fill(file: &[u8], out: &mut [u8], list: &mut [u8]) -> Sizes
@@ -33,28 +33,21 @@ fn fill(file: &[u8], out: &mut [u8], list: &mut [u8]) -> Sizes
 }
 
 // Mends a file that none of 1, 2 and 3 applies to.
-fn mend_into(file: &[u8], out: &mut [u8], list: &mut [u8]) -> Mended
+fn mend_into(file: &[u8], out: &mut [u8], list: &mut [u8]) -> Result<Sizes, Refusal>
     requires { Mendable file.now }
     ensures { Answered answers.Accepted file.now out.old list.old result out.new list.new }
 {
     let m = file.len() / 8;
     if (out.len() < file.len()) | (list.len() < 16 * m) {
-        return Mended::Refused(Refusal {
-            number: 15,
-            place: 0,
-        });
+        return Err(Refusal::whole(15));
     }
-    let sizes = fill(file, out, list);
-    Mended::Lengths(sizes)
+    Ok(fill(file, out, list))
 }
 
 // Writes the mended file to the front of `out`, and what was done to the front of `list`.
-pub fn mend(file: &[u8], out: &mut [u8], list: &mut [u8]) -> Mended
+pub fn mend(file: &[u8], out: &mut [u8], list: &mut [u8]) -> Result<Sizes, Refusal>
     ensures { (result ≡ mend_of file.now (length out.old) (length list.old)) × (out.new ≡ file_after file.now out.old list.old) × (list.new ≡ list_after_of file.now out.old list.old) }
 {
-    let answer = judge::judge(file);
-    match answer {
-        Answer::Accepted => mend_into(file, out, list),
-        Answer::Refused(r) => Mended::Refused(r),
-    }
+    judge::judge(file)?;
+    mend_into(file, out, list)
 }

@@ -6,7 +6,6 @@ ghost use Rattle.mends.specs.Listed.{list_of};
 ghost use Rattle.mend_keys.specs.Keys.{Known};
 ghost use Rattle.mend_record.specs.Laying.{fate_of};
 
-use super::lay::one;
 use mend_keys::{plain, rank_of};
 use mend_record::{Fate, note_fate, stray};
 
@@ -46,15 +45,12 @@ pub(crate) fn note_all(
     requires { Known file.now t.now before.now marks.now × (16 * records file.now ≤ length list.old) }
     ensures { (result ≡ length (list_of file.now)) × (list.new ≡ list_of file.now ++ drop (length (list_of file.now)) list.old) }
 {
-    let m = file.len() / 8;
     let mut n: usize = 0;
     let mut stood: usize = 0;
-    let mut k: usize = 0;
-    while k < m {
+    for k in 0..file.len() / 8 {
         let f = done_to(file, t, before, marks, k, stood);
         n = note_fate(list, n, k, f);
-        stood = stood + one(marks[k] == 1);
-        k += 1;
+        stood += usize::from(marks[k] == 1);
     }
     n
 }

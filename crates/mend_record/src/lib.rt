@@ -28,11 +28,9 @@ pub fn cleared(file: &[u8], k: usize) -> [u8; 8]
 {
     let order = records::order_of(file, k);
     let mut a = [0u8; 8];
-    let mut j = 0;
-    while j < 8 {
+    for j in 0..8 {
         let on = must_be_zero(order, j);
         a[j] = zero_if(file[8 * k + j], on);
-        j += 1;
     }
     a
 }
@@ -91,8 +89,8 @@ pub fn note_fate(list: &mut [u8], n: usize, k: usize, f: Fate) -> usize
     requires { (k < 65536) × (n ≤ 18600) × (n + 16 ≤ length list.old) × (bit f.stray + bit f.looped + bit f.doubled + bit f.moved ≤ 2) }
     ensures { (result ≡ n + 8 * bit f.stray + 8 * bit f.looped + 8 * bit f.doubled + 8 * bit f.moved) × (list.new ≡ notes list.old n k f) }
 {
-    let a = note(list, n, 0x43, k, f.stray);
-    let b = note(list, a, 0x44, k, f.looped);
-    let c = note(list, b, 0x58, k, f.doubled);
-    note(list, c, 0x4D, k, f.moved)
+    let a = note(list, n, b'C', k, f.stray);
+    let b = note(list, a, b'D', k, f.looped);
+    let c = note(list, b, b'X', k, f.doubled);
+    note(list, c, b'M', k, f.moved)
 }

@@ -23,14 +23,14 @@ use Rattle.model.proofs.Places.{first-at, first-none, first_below, count-le}
 use Rattle.graph.specs.File.{records}
 use Rattle.graph.specs.Rules.{rule1, rule3}
 use Rattle.graph.specs.Judge.{judge_from}
-use Rattle.graph.specs.declared.Answer.{Answer}
-use Rattle.graph.specs.declared.Answer.TheVariants as answers
+use Rattle.graph.specs.Answer.{Answer}
+use Rattle.graph.specs.Answer as answers
 use Rattle.graph.specs.declared.Refusal.{Refusal}
 use Rattle.mends.specs.Mends.{NoMend, stays}
 use Rattle.mends.specs.Mended.{mended_of}
 use Rattle.mends.specs.Listed.{list_of}
 use Rattle.mends.specs.Answers.{unknown, refused_at, judge_mend, Mendable, tight, mend_of, file_after, list_after_of, Same}
-use Rattle.mends.specs.declared.Mended.TheVariants.{Lengths, Refused}
+use Rattle.mends.specs.Answers.{Lengths, Refused}
 use Rattle.mends.proofs.Tidy.{list-empty, file-kept, whole-records}
 use Rattle.mends.proofs.Again.{mended-length, mended-mendable, again_none}
 use Rattle.mends.proofs.Reader.{accepted-mendable, accepted-none}

@@ -23,7 +23,7 @@ use Rattle.graph.specs.File.{records, byte_at, word_at, order, is_order, many, o
 use Rattle.graph.specs.Model.{as_model}
 use Rattle.graph.specs.Rules.{holds, places, rule4, rule5, rule6, rule7, rule8, rule9, rule11}
 use Rattle.graph.specs.Judge.{judge_from}
-use Rattle.graph.specs.declared.Answer.TheVariants.{Accepted}
+use Rattle.graph.specs.Answer.{Accepted}
 use Rattle.graph.proofs.Judging.{all_fit, accepts}
 use Rattle.graph.proofs.Orders.{edge-record}
 use Rattle.graph.proofs.Edges.{edge-place}

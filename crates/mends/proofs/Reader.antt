@@ -18,7 +18,7 @@ use Rattle.model.proofs.Bools.{clash, not-true, both, left-of, right_of, or_neit
 use Rattle.graph.specs.File.{records, byte_at, word_at, key_at, order, is_order, many}
 use Rattle.graph.specs.Rules.{rule2, rule9, rule10, holds, places}
 use Rattle.graph.specs.Judge.{judge_from}
-use Rattle.graph.specs.declared.Answer.TheVariants.{Accepted}
+use Rattle.graph.specs.Answer.{Accepted}
 use Rattle.graph.proofs.Judging.{none-holds}
 use Rattle.mends.specs.Mends.{NoMend, must_be_zero_of, stray_at, stray, is_edge, loop}
 use Rattle.mends.specs.Mended.{mended_of}

@@ -1,6 +1,7 @@
 -- What `mend` answers, and what the two lent buffers hold afterwards (order 12: "Refusals: 1, 2 for an unknown kind only, 3, then 15 when
 -- the mended buffer is shorter than the input or the list has under 16 bytes for each input record").
 --
+--   Mended                      how many bytes the mended file and the list have, or a refusal
 --   unknown s k                 record k is of no known kind
 --   judge_mend s                 the answer of 1, 2 and 3
 --   Mendable s                  none of the three applies
@@ -9,16 +10,26 @@
 --   file_after s room list       what the buffer for the file holds at the end, where it held room and the list's buffer held list
 --   list_after_of s room list       what the buffer for the list holds at the end
 --   Same s room list file       the answer is the length of the file and an empty list; the one buffer holds the file, the other what it held
+use Rattle.std.specs.Prelude.{Result, Ok, Err}
 use Rattle.std.specs.Prelude.{◌≡◌, Bool, false, ◌||◌, List, ◌++◌, ℕ, ◌*◌, ◌<◌, length, drop, eqb, ltb}
 use Rattle.model.specs.Places.{pick, first}
 use Rattle.graph.specs.File.{records, order}
 use Rattle.graph.specs.Rules.{rule1, rule3}
-use Rattle.graph.specs.declared.Answer.{Answer}
-use Rattle.graph.specs.declared.Answer.TheVariants as answers
+use Rattle.graph.specs.Answer.{Answer}
+use Rattle.graph.specs.Answer as answers
+use Rattle.graph.specs.declared.Refusal.{Refusal}
 use Rattle.mends.specs.Mended.{mended_of}
 use Rattle.mends.specs.Listed.{list_of}
-use Rattle.mends.specs.declared.Mended.{Mended}
-use Rattle.mends.specs.declared.Mended.TheVariants.{Lengths, Refused}
+use Rattle.mends.specs.declared.Sizes.{Sizes}
+
+abbrev pub Mended : Type 0
+Mended = Result Sizes Refusal
+
+abbrev pub Lengths : Sizes → Mended
+Lengths x = Ok x
+
+abbrev pub Refused : Refusal → Mended
+Refused r = Err r
 
 unfoldable pub unknown : List ℕ → ℕ → Bool
 unknown s k = eqb (order s k) 3
@@ -41,18 +52,18 @@ unfoldable pub tight : List ℕ → ℕ → ℕ → Bool
 tight s room listRoom = ltb room (length s) || ltb listRoom (16 * records s)
 
 abbrev pub mend_by : Answer → List ℕ → ℕ → ℕ → Mended
-mend_by answers.Accepted s room listRoom =
+mend_by (Ok _) s room listRoom =
     pick (tight s room listRoom) (Refused (record { number = 15; place = 0 }))
     (Lengths (record { file = length (mended_of s); list = length (list_of s) }))
-mend_by (answers.Refused r) s room listRoom = Refused r
+mend_by (Err r) s room listRoom = Refused r
 
 unfoldable pub mend_of : List ℕ → ℕ → ℕ → Mended
 mend_of s room listRoom = mend_by (judge_mend s) s room listRoom
 
 -- on success the answer, then what stood past it; beside a refusal what stood there
 abbrev pub held_by : Mended → List ℕ → List ℕ → List ℕ
-held_by (Lengths x) answer old = answer ++ drop (length answer) old
-held_by (Refused r) answer old = old
+held_by (Ok x) answer old = answer ++ drop (length answer) old
+held_by (Err r) answer old = old
 
 unfoldable pub file_after : List ℕ → List ℕ → List ℕ → List ℕ
 file_after s room list = held_by (mend_of s (length room) (length list)) (mended_of s) room

@@ -4,10 +4,16 @@ use mathlib.Core.Logic.{◌⊎◌, inl, inr}
 use mathlib.Core.Bool.{Bool, true, false, not, ◌&&◌, ◌||◌}
 use Prim.Native.Nat.{ℕ, zero, suc, ◌≤◌, ◌<◌, zero-le, suc-le-suc}
 use native.Mathlib.Omega.{arith}
+use Rattle.std.specs.Int.{from_bool}
 use Rattle.model.specs.Places.{bit}
 
 pub clash : {b : Bool} → b ≡ true → b ≡ false → ⊥
 clash p q = let z : ◌≡◌ {A = ℕ} 0 1 = cc in omega arith
+
+-- what `from` makes of a test
+pub bit_is : (b : Bool) → from_bool b ≡ bit b
+bit_is true = refl
+bit_is false = refl
 
 pub cases : (b : Bool) → (b ≡ true) ⊎ (b ≡ false)
 cases true = inl refl

@@ -18,13 +18,10 @@ fn reached(edge: &[u16; 1024], start: &[u16; 129], t: &[[u64; 2]; 128], u: usize
     requires { Row edge.now start.now u }
     ensures { Members result (reached_by edge.now start.now t.now u (many start.now u)) }
 {
-    let count = summary::row::many(start, u);
     let mut got = vset::none();
-    let mut k: usize = 0;
-    while k < count {
+    for k in 0..summary::row::many(start, u) {
         let x = summary::row::nth(edge, start, u, k);
         got = vset::either(got, vset::with(row(t, x), x));
-        k += 1;
     }
     got
 }
@@ -40,9 +37,7 @@ pub(crate) fn descendants(
     requires t_value { t.old ≡ empty }
     ensures { (g : Graph) → Weighed g edge.now start.now order.now n [] → Holds t.new (below (as_model g)) }
 {
-    let mut j = n;
-    while 0 < j {
-        j -= 1;
+    for j in (0..n).rev() {
         let u = order[j] as usize;
         let got = reached(edge, start, t, u);
         put(t, u, got);

@@ -40,12 +40,10 @@ pub fn beside(
 {
     let words = choice::of_kinds(kind, n);
     descendants(edge, start, order, n, t);
-    let mut v: usize = 0;
-    while v < n {
+    for v in 0..n {
         let same = choice::set_at(&words, kind[v] as usize);
         let above = row(&anc, v);
         let below = row(t, v);
         put(t, v, apart(same, above, below, v));
-        v += 1;
     }
 }

@@ -15,12 +15,6 @@ pub struct Sums {
     pub head: usize,
 }
 
-fn larger(a: u64, b: u64) -> u64
-    ensures { result ≡ max a b }
-{
-    if a < b { b } else { a }
-}
-
 // The largest sum by the edges of u, or 0 where it has none.
 fn most_ahead(
     edge: &[u16; 1024],
@@ -32,13 +26,10 @@ fn most_ahead(
     requires { Visitable edge.now start.now weight.now sums.now u }
     ensures { Follows edge.now weight.now sums.now (get_or start.now u 0) (get_or start.now (u + 1) 0) result }
 {
-    let end = start[u + 1] as usize;
     let mut most: u64 = 0;
-    let mut i = start[u] as usize;
-    while i < end {
+    for i in start[u] as usize..start[u + 1] as usize {
         let v = to(edge[i]);
-        most = larger(most, weight[v] + sums[v]);
-        i += 1;
+        most = most.max(weight[v] + sums[v]);
     }
     most
 }
@@ -57,9 +48,7 @@ fn foremost(
 {
     let mut head = source;
     let mut most = weight[source] + sums[source];
-    let mut v = n;
-    while 0 < v {
-        v -= 1;
+    for v in (0..n).rev() {
         let sum = weight[v] + sums[v];
         if (led[v] == 0) & (most <= sum) {
             head = v;
@@ -87,9 +76,7 @@ pub fn longest(
         ahead: [0u64; 128],
         head: 0,
     };
-    let mut j = n;
-    while 0 < j {
-        j -= 1;
+    for j in (0..n).rev() {
         let u = order[j] as usize;
         sums.ahead[u] = most_ahead(edge, start, weight, &sums.ahead, u);
     }

@@ -7,7 +7,8 @@ ghost use Rattle.paths.specs.Trace.{Traceable, Traced, Onward};
 
 use starts::to;
 
-// Where the first edge of u goes that keeps its sum: edges ascend, so it is the least such vertex. 128 where there is none.
+// Where the first edge of u goes that keeps its sum: edges ascend, so it is the least such vertex. 128 where there is none:
+// `Onward` and `Tracing` say by one number where the walk stands, also past its end.
 fn onward(
     edge: &[u16; 1024],
     start: &[u16; 129],
@@ -18,14 +19,11 @@ fn onward(
     requires { Visitable edge.now start.now weight.now sums.now u }
     ensures { Onward edge.now start.now weight.now sums.now u result }
 {
-    let end = start[u + 1] as usize;
-    let mut i = start[u] as usize;
-    while i < end {
+    for i in start[u] as usize..start[u + 1] as usize {
         let v = to(edge[i]);
         if weight[v] + sums[v] == sums[u] {
             return v;
         }
-        i += 1;
     }
     128
 }

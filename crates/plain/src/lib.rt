@@ -9,12 +9,6 @@ ghost use Rattle.plain.specs.Plain.{type_row_of, vertex_row_of, edge_row_of, typ
 
 use records::{Counts, byte, key, word};
 
-fn smaller(x: usize, y: usize) -> usize
-    ensures { result ≡ min x y }
-{
-    if x < y { x } else { y }
-}
-
 // Record k as the type k.
 fn type_row(file: &[u8], k: usize) -> bool
     requires { k < records file.now }
@@ -53,13 +47,11 @@ fn edge_row(file: &[u8], k: usize, n: usize) -> bool
 fn types(file: &[u8]) -> usize
     ensures { result ≡ types_in file.now }
 {
-    let most = smaller(file.len() / 8, 10);
-    let mut k: usize = 0;
-    while k < most {
+    let most = (file.len() / 8).min(10);
+    for k in 0..most {
         if !type_row(file, k) {
             return k;
         }
-        k += 1;
     }
     most
 }
@@ -69,13 +61,11 @@ fn vertices(file: &[u8], a: usize) -> usize
     requires { a ≤ records file.now }
     ensures { result ≡ vertices_in file.now a }
 {
-    let most = smaller(file.len() / 8 - a, 128);
-    let mut v: usize = 0;
-    while v < most {
+    let most = (file.len() / 8 - a).min(128);
+    for v in 0..most {
         if !vertex_row(file, a, v) {
             return v;
         }
-        v += 1;
     }
     most
 }
@@ -85,16 +75,14 @@ fn edges(file: &[u8], a: usize, n: usize) -> usize
     requires { a ≤ records file.now }
     ensures { result ≡ edges_in file.now a n }
 {
-    let most = smaller(file.len() / 8 - a, 1024);
+    let most = (file.len() / 8 - a).min(1024);
     let mut least: usize = 0;
-    let mut i: usize = 0;
-    while i < most {
+    for i in 0..most {
         let edge = key(file, a + i);
         if !(edge_row(file, a + i, n) & (least <= edge)) {
             return i;
         }
         least = edge + 1;
-        i += 1;
     }
     most
 }

@@ -4,7 +4,13 @@
 
 mod words;
 
+use input::Failure;
+
 fn main(rt: HostRuntime) {
-    let status = words::answer(&rt);
-    io::write_all(3, &[b'0' + status % 10]);
+    let status = match words::answer(&rt) {
+        Ok(()) => b'0',
+        Err(Failure::No) => b'1',
+        Err(Failure::Trouble) => b'2',
+    };
+    io::write_all(3, &[status]);
 }

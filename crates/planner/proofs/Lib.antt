@@ -1,2 +1,3 @@
 -- One outcome.
 pub mod Outcomes
+mod Reading

@@ -18,16 +18,20 @@ ghost use Rattle.planner.specs.Stepped.{coded_step};
 
 use codes::{
     PlannerBounds, PlannerCount, PlannerEnough, PlannerFinish, PlannerGraph, PlannerLate,
-    PlannerMended, PlannerMoved, PlannerRun, PlannerSecond, PlannerTick, coded_bounds,
-    coded_enough, coded_gains, coded_graph, coded_late, coded_mend, coded_path, coded_play,
-    coded_replay, coded_report, coded_second, coded_start, coded_tick, coded_wrote,
+    PlannerMended, PlannerMoved, PlannerRun, PlannerSecond, PlannerTick, coded_bounds, coded_count,
+    coded_enough, coded_finish, coded_graph, coded_late, coded_mend, coded_report, coded_second,
+    coded_start, coded_tick,
 };
+use reader::Laid;
 use tick::Run;
 
 pub fn planner_read(file: &[u8]) -> PlannerGraph
     ensures { result ≡ coded_graph_of (read_of file.now) }
 {
-    coded_graph(reader::read(file))
+    // Not by `reader::read`: its graph would be one more on the caller's stack, beside the laid one and the answer.
+    let mut laid = Laid::blank();
+    let answer = reader::take_rows(file, &mut laid);
+    coded_graph(answer, &laid.graph)
 }
 
 pub fn planner_write(
@@ -39,7 +43,7 @@ pub fn planner_write(
 ) -> PlannerCount
     ensures { (result ≡ coded_wrote_of (wrote_of (lists cores.now kinds.now wcets.now edges.now) (length out.old))) × (out.new ≡ room_after (lists cores.now kinds.now wcets.now edges.now) out.old) }
 {
-    coded_wrote(writer::write(cores, kinds, wcets, edges, out))
+    coded_count(writer::write(cores, kinds, wcets, edges, out))
 }
 
 pub fn planner_bounds(file: &[u8]) -> PlannerBounds
@@ -63,19 +67,19 @@ pub fn planner_enough(file: &[u8], kind: u32, limit: u32) -> PlannerEnough
 pub fn planner_path(file: &[u8], out: &mut [u8]) -> PlannerCount
     ensures { PathCoded file.now out.old result out.new }
 {
-    coded_path(bounds::path(file, out))
+    coded_count(bounds::path(file, out))
 }
 
 pub fn planner_gains(file: &[u8], out: &mut [u64]) -> PlannerCount
     ensures { GainsCoded file.now out.old result out.new }
 {
-    coded_gains(gains::gains(file, out))
+    coded_count(gains::gains(file, out))
 }
 
 pub fn planner_gains_altered(file: &[u8], vertex: u32, wcet: u32, out: &mut [u64]) -> PlannerCount
     ensures { AlteredCoded file.now vertex wcet out.old result out.new }
 {
-    coded_gains(gains::gains_altered(file, vertex, wcet, out))
+    coded_count(gains::gains_altered(file, vertex, wcet, out))
 }
 
 pub fn planner_start(file: &[u8], times: &[u32]) -> PlannerRun
@@ -93,7 +97,7 @@ pub fn planner_tick(run: Run, file: &[u8]) -> PlannerTick
 pub fn planner_run(file: &[u8], times: &[u32], finishes: &mut [u32]) -> PlannerFinish
     ensures { (result ≡ coded_play_of (play_of file.now times.now (length finishes.old))) × (finishes.new ≡ finishes_of file.now times.now finishes.old) }
 {
-    coded_play(schedule::run(file, times, finishes))
+    coded_finish(schedule::run(file, times, finishes))
 }
 
 pub fn planner_late(file: &[u8], times: &[u32], d: u32) -> PlannerLate
@@ -105,25 +109,25 @@ pub fn planner_late(file: &[u8], times: &[u32], d: u32) -> PlannerLate
 pub fn planner_replay(file: &[u8], log: &[u8], times: &mut [u32]) -> PlannerFinish
     ensures { (result ≡ coded_replay_of (replay_of file.now log.now (length times.old))) × (times.new ≡ times_after_of file.now log.now times.old) }
 {
-    coded_replay(replay::replay(file, log, times))
+    coded_finish(replay::replay(file, log, times))
 }
 
 pub fn planner_log(file: &[u8], times: &[u32], log: &mut [u8]) -> PlannerCount
     ensures { (result ≡ coded_wrote_of (logged_of file.now times.now (length log.old))) × (log.new ≡ log_room file.now times.now log.old) }
 {
-    coded_wrote(logs::log(file, times, log))
+    coded_count(logs::log(file, times, log))
 }
 
 pub fn planner_stg_read(text: &[u8], cores: &[u8], kinds: &[u8], out: &mut [u8]) -> PlannerCount
     ensures { (result ≡ coded_wrote_of (read_stg_of text.now cores.now kinds.now (length out.old))) × (out.new ≡ read_room text.now cores.now kinds.now out.old) }
 {
-    coded_wrote(stg::read(text, cores, kinds, out))
+    coded_count(stg::read(text, cores, kinds, out))
 }
 
 pub fn planner_stg_write(file: &[u8], out: &mut [u8]) -> PlannerCount
     ensures { (result ≡ coded_wrote_of (write_stg_of file.now (length out.old))) × (out.new ≡ write_room file.now out.old) }
 {
-    coded_wrote(stg_writer::write(file, out))
+    coded_count(stg_writer::write(file, out))
 }
 
 pub fn planner_mend(file: &[u8], out: &mut [u8], list: &mut [u8]) -> PlannerMended
@@ -144,9 +148,8 @@ fn step(run: Run, file: &[u8]) -> Stepped
     ensures { result ≡ coded_step (tick_of file.now run) }
 {
     let ticked = schedule::tick(run, file);
+    let said = coded_report(ticked.report);
     let next = ticked.run;
-    let report = ticked.report;
-    let said = coded_report(report);
     Stepped { said, run: next }
 }
 

@@ -3,53 +3,72 @@
 
 #![tactic(auto)]
 
+ghost use Rattle.std.specs.Prelude.{◌≡◌, ◌≤◌, ◌<◌};
+
 pub fn text(word: &[u8]) {
     io::write_all(1, word);
 }
 
-// Puts a byte after the first `at`, and hands back how much of the buffer is filled then.
-fn put(out: &mut [u8], at: usize, b: u8) -> usize {
-    if at < out.len() {
-        out[at] = b;
-        return at + 1;
-    }
-    io::write_all(1, out);
-    if out.len() > 0 {
-        out[0] = b;
-        return 1;
-    }
-    0
+// What is to be written: the first bytes of a buffer, which is written when it is full.
+#[derive(Drop)]
+struct Buffered<const N: usize> {
+    bytes: [u8; N],
+    filled: usize,
+    ghost within: { filled ≤ N },
 }
 
-fn put_text(out: &mut [u8], at: usize, word: &[u8]) -> usize {
-    let n = word.len();
-    let mut filled = at;
-    for i in 0..n {
-        filled = put(out, filled, word[i]);
+impl<const N: usize> Buffered<N> {
+    fn new() -> Self {
+        Buffered {
+            bytes: [0; N],
+            filled: 0,
+        }
     }
-    filled
-}
 
-// A blank and a number.
-fn put_field(out: &mut [u8], at: usize, n: u64) -> usize {
-    let mut digits = [0u8; 20];
-    let k = io::decimal(n, &mut digits);
-    let filled = put(out, at, b' ');
-    put_text(out, filled, &digits[..k])
-}
+    // Writes what the buffer holds.
+    fn flush(&mut self)
+        ensures { self.new.filled ≡ 0 }
+    {
+        io::write_all(1, &self.bytes[..self.filled]);
+        self.filled = 0;
+    }
 
-// Writes what the buffer holds.
-fn flush(out: &[u8], at: usize) {
-    if at <= out.len() {
-        io::write_all(1, &out[0..at]);
+    // Room for a byte.
+    fn make_room(&mut self)
+        requires { 0 < N }
+        ensures { self.new.filled < N }
+    {
+        if self.filled == N {
+            self.flush();
+        }
+    }
+
+    fn put(&mut self, b: u8)
+        requires { 0 < N }
+    {
+        self.make_room();
+        self.bytes[self.filled] = b;
+        self.filled += 1;
+    }
+
+    // A blank and a number.
+    fn field(&mut self, n: u64)
+        requires { 0 < N }
+    {
+        let mut digits = [0u8; 20];
+        let k = io::decimal(n, &mut digits);
+        self.put(b' ');
+        for b in &digits[..k] {
+            self.put(*b);
+        }
     }
 }
 
 // A blank and a number.
 pub fn field(n: u64) {
-    let mut out = [0u8; 32];
-    let filled = put_field(&mut out, 0, n);
-    flush(&out, filled);
+    let mut out = Buffered::<32>::new();
+    out.field(n);
+    out.flush();
 }
 
 // A word, a blank and a number.
@@ -64,70 +83,41 @@ pub fn refused(number: u32, place: u32) {
     given(b" at", place as u64);
 }
 
-fn of_byte(x: u8) -> u64 {
-    x as u64
-}
-
-fn of_word(x: u32) -> u64 {
-    x as u64
-}
-
-fn put_bytes(list: &[u8], out: &mut [u8]) {
-    let n = list.len();
-    let mut filled = 0;
-    for i in 0..n {
-        filled = put_field(out, filled, of_byte(list[i]));
-    }
-    flush(out, filled);
-}
-
-fn put_words(list: &[u32], out: &mut [u8]) {
-    let n = list.len();
-    let mut filled = 0;
-    for i in 0..n {
-        filled = put_field(out, filled, of_word(list[i]));
-    }
-    flush(out, filled);
-}
-
-fn put_longs(list: &[u64], out: &mut [u8]) {
-    let n = list.len();
-    let mut filled = 0;
-    for i in 0..n {
-        filled = put_field(out, filled, list[i]);
-    }
-    flush(out, filled);
-}
-
 // The numbers of a list, each with a blank before it.
+fn fields<T: Copy + Into<u64>>(list: &[T]) {
+    let mut out = Buffered::<4096>::new();
+    for x in list {
+        out.field((*x).into());
+    }
+    out.flush();
+}
+
+// A function for each width: the theorems on one outcome, which docs/TIGHT.md names, are about functions without type parameters.
 pub fn bytes(list: &[u8]) {
-    let mut out = [0u8; 4096];
-    put_bytes(list, &mut out);
+    fields(list);
 }
 
 pub fn words(list: &[u32]) {
-    let mut out = [0u8; 4096];
-    put_words(list, &mut out);
+    fields(list);
 }
 
 // ` :`, all the places that were lent, and the line's end.
-pub fn lent_bytes(lent: &[u8]) {
+fn lent<T: Copy + Into<u64>>(lent: &[T]) {
     text(b" :");
-    bytes(lent);
+    fields(lent);
     text(b"\n");
 }
 
-pub fn lent_words(lent: &[u32]) {
-    text(b" :");
-    words(lent);
-    text(b"\n");
+pub fn lent_bytes(list: &[u8]) {
+    lent(list);
 }
 
-pub fn lent_longs(lent: &[u64]) {
-    let mut out = [0u8; 4096];
-    text(b" :");
-    put_longs(lent, &mut out);
-    text(b"\n");
+pub fn lent_words(list: &[u32]) {
+    lent(list);
+}
+
+pub fn lent_longs(list: &[u64]) {
+    lent(list);
 }
 
 // The answer to what is no request.

@@ -4,19 +4,12 @@
 
 ghost use Rattle.std.specs.Prelude.{◌≤◌};
 
-fn smaller(a: u64, b: usize) -> usize
-    ensures { (result ≤ a) × (result ≤ b) }
-{
-    if a < b as u64 { a as usize } else { b }
-}
-
 // Reads some of so many bytes, and drops them.
 fn drop_some(left: u64, space: &mut [u8]) -> u64
     ensures { result ≤ left }
 {
-    let want = smaller(left, space.len());
-    let got = io::read_full(0, &mut space[0..want]);
-    smaller(left, got) as u64
+    let want = left.min(space.len() as u64) as usize;
+    io::read_full(0, &mut space[..want]) as u64
 }
 
 // Reads and drops so many bytes; whether they were all there.
@@ -58,8 +51,8 @@ fn answer(letter: u8, p: &[u8]) {
 
 // The payload of so many bytes, which the space has, read and answered; whether it was all there.
 fn payload(letter: u8, long: u64, space: &mut [u8]) -> bool {
-    let n = smaller(long, space.len());
-    let p = &mut space[0..n];
+    let n = long.min(space.len() as u64) as usize;
+    let p = &mut space[..n];
     let got = io::read_full(0, p);
     if got < n {
         print::bad();
@@ -91,12 +84,10 @@ fn turn(space: &mut [u8]) -> bool {
 
 // Requests until the input ends: more turns than any input has.
 fn requests(space: &mut [u8]) {
-    let mut turns = u64::MAX;
-    while turns > 0 {
+    for _ in 0..u64::MAX {
         if !turn(space) {
             return;
         }
-        turns -= 1;
     }
 }
 

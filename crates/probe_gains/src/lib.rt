@@ -2,13 +2,13 @@
 // answers it.
 #![tactic(auto)]
 
-use gains::Gained;
+use graph::Refusal;
 use wire::PRESET_LONG;
 
-fn said(gained: Gained) {
+fn said(gained: Result<usize, Refusal>) {
     match gained {
-        Gained::Vertices(n) => print::given(b"gains", n as u64),
-        Gained::Refused(r) => print::refused(r.number, r.place),
+        Ok(n) => print::given(b"gains", n as u64),
+        Err(r) => print::refused(r.number, r.place),
     }
 }
 
@@ -17,20 +17,19 @@ fn all(file: &[u8], lent: &mut [u64]) {
     print::lent_longs(lent)
 }
 
-pub fn gains_request(p: &[u8]) {
-    let f = wire::list(p, 0);
-    let room = wire::number(p, f.end);
-    if !(f.good & room.good & (room.end == p.len())) {
-        return print::bad();
+fn gains_asked(p: &[u8]) -> Option<()> {
+    let file = wire::list(p, 0)?;
+    let room = wire::number(p, file.end)?;
+    if (room.end != p.len()) | (room.value > 32768) {
+        return None;
     }
-    if room.value > 32768 {
-        return print::bad();
-    }
-    let start = f.start;
-    let end = f.end;
-    let places = room.value as usize;
     let mut lent = [PRESET_LONG; 32768];
-    all(&p[start..end], &mut lent[0..places])
+    all(&p[file.start..file.end], &mut lent[..room.value as usize]);
+    Some(())
+}
+
+pub fn gains_request(p: &[u8]) {
+    gains_asked(p).unwrap_or_else(print::bad)
 }
 
 fn altered(file: &[u8], vertex: u32, wcet: u32, lent: &mut [u64]) {
@@ -38,39 +37,27 @@ fn altered(file: &[u8], vertex: u32, wcet: u32, lent: &mut [u64]) {
     print::lent_longs(lent)
 }
 
-// Vertex, WCET and room stand from a place on, and nothing else. Vertex and WCET are any numbers of 32 bits; a wider one is no request.
-fn altered_from(p: &[u8], at: usize, file: &[u8]) {
-    let vertex = wire::number(p, at);
-    let wcet = wire::number(p, vertex.end);
-    let room = wire::number(p, wcet.end);
-    if !(vertex.good & wcet.good & room.good & (room.end == p.len())) {
-        return print::bad();
+// Vertex and WCET are any numbers of 32 bits; a wider one is no request.
+fn altered_asked(p: &[u8]) -> Option<()> {
+    let file = wire::list(p, 0)?;
+    let vertex = wire::number(p, file.end)?;
+    let wcet = wire::number(p, vertex.end)?;
+    let room = wire::number(p, wcet.end)?;
+    if (room.end != p.len()) | (room.value > 32768) {
+        return None;
     }
-    if vertex.value > 4294967295 {
-        return print::bad();
-    }
-    if wcet.value > 4294967295 {
-        return print::bad();
-    }
-    if room.value > 32768 {
-        return print::bad();
-    }
-    let places = room.value as usize;
+    let vertex = u32::try_from(vertex.value).ok()?;
+    let wcet = u32::try_from(wcet.value).ok()?;
     let mut lent = [PRESET_LONG; 32768];
     altered(
-        file,
-        vertex.value as u32,
-        wcet.value as u32,
-        &mut lent[0..places],
-    )
+        &p[file.start..file.end],
+        vertex,
+        wcet,
+        &mut lent[..room.value as usize],
+    );
+    Some(())
 }
 
 pub fn altered_request(p: &[u8]) {
-    let f = wire::list(p, 0);
-    if !f.good {
-        return print::bad();
-    }
-    let start = f.start;
-    let end = f.end;
-    altered_from(p, end, &p[start..end])
+    altered_asked(p).unwrap_or_else(print::bad)
 }

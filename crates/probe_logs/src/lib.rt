@@ -1,16 +1,14 @@
 // The letters L and O of the probe: a log replayed, and the log of a run. Each takes a request's payload and prints the line that answers it.
 #![tactic(auto)]
 
-ghost use Rattle.std.specs.Prelude.{◌≤◌};
-
-use replay::Replayed;
+use graph::Refusal;
+use units::Ticks;
 use wire::{PRESET, PRESET_WORD};
-use writer::Wrote;
 
-fn finish(replayed: Replayed) {
+fn finish(replayed: Result<Ticks, Refusal>) {
     match replayed {
-        Replayed::Finish(t) => print::given(b"replayed", t.0),
-        Replayed::Refused(r) => print::refused(r.number, r.place),
+        Ok(t) => print::given(b"replayed", t.0),
+        Err(r) => print::refused(r.number, r.place),
     }
 }
 
@@ -20,38 +18,30 @@ fn replay(file: &[u8], log: &[u8], lent: &mut [u32]) {
 }
 
 // With a list of so many places lent for the times.
-fn replay_with(file: &[u8], log: &[u8], room: usize)
-    requires { room ≤ 32768 }
-{
+fn replay_asked(p: &[u8]) -> Option<()> {
+    let file = wire::list(p, 0)?;
+    let log = wire::list(p, file.end)?;
+    let room = wire::number(p, log.end)?;
+    if (room.end != p.len()) | (room.value > 32768) {
+        return None;
+    }
     let mut lent = [PRESET_WORD; 32768];
-    replay(file, log, &mut lent[0..room])
+    replay(
+        &p[file.start..file.end],
+        &p[log.start..log.end],
+        &mut lent[..room.value as usize],
+    );
+    Some(())
 }
 
 pub fn replay_request(p: &[u8]) {
-    let f = wire::list(p, 0);
-    let l = wire::list(p, f.end);
-    let room = wire::number(p, l.end);
-    if !(f.good & l.good & room.good & (room.end == p.len())) {
-        return print::bad();
-    }
-    if room.value > 32768 {
-        return print::bad();
-    }
-    let file_start = f.start;
-    let file_end = f.end;
-    let log_start = l.start;
-    let log_end = l.end;
-    replay_with(
-        &p[file_start..file_end],
-        &p[log_start..log_end],
-        room.value as usize,
-    )
+    replay_asked(p).unwrap_or_else(print::bad)
 }
 
-fn length(wrote: Wrote) {
+fn length(wrote: Result<usize, Refusal>) {
     match wrote {
-        Wrote::Bytes(n) => print::given(b"log", n as u64),
-        Wrote::Refused(r) => print::refused(r.number, r.place),
+        Ok(n) => print::given(b"log", n as u64),
+        Err(r) => print::refused(r.number, r.place),
     }
 }
 
@@ -61,33 +51,24 @@ fn log(file: &[u8], times: &[u32], lent: &mut [u8]) {
 }
 
 // The times laid in a list of their own, and so many bytes lent for the log.
-fn log_with(file: &[u8], times: &[u8], room: usize)
-    requires { room ≤ 32768 }
-{
+fn log_asked(p: &[u8]) -> Option<()> {
+    let file = wire::list(p, 0)?;
+    let times = wire::list(p, file.end)?;
+    let room = wire::number(p, times.end)?;
+    if (room.end != p.len()) | ((times.end - times.start) % 4 != 0) | (room.value > 32768) {
+        return None;
+    }
     let mut words = [0u32; 65536];
     let mut lent = [PRESET; 32768];
-    let n = wire::words(times, &mut words);
-    log(file, &words[0..n], &mut lent[0..room])
+    let n = wire::words(&p[times.start..times.end], &mut words);
+    log(
+        &p[file.start..file.end],
+        &words[..n],
+        &mut lent[..room.value as usize],
+    );
+    Some(())
 }
 
 pub fn log_request(p: &[u8]) {
-    let f = wire::list(p, 0);
-    let t = wire::list(p, f.end);
-    let room = wire::number(p, t.end);
-    let cut = f.good & t.good & room.good & (room.end == p.len());
-    if !(cut & ((t.end - t.start) % 4 == 0)) {
-        return print::bad();
-    }
-    if room.value > 32768 {
-        return print::bad();
-    }
-    let file_start = f.start;
-    let file_end = f.end;
-    let times_start = t.start;
-    let times_end = t.end;
-    log_with(
-        &p[file_start..file_end],
-        &p[times_start..times_end],
-        room.value as usize,
-    )
+    log_asked(p).unwrap_or_else(print::bad)
 }

@@ -1,18 +1,17 @@
 // The letter M of the probe: a file mended. It takes a request's payload and prints the line that answers it.
 #![tactic(auto)]
 
-ghost use Rattle.std.specs.Prelude.{◌≤◌};
-
-use mends::Mended;
+use graph::Refusal;
+use mends::Sizes;
 use wire::PRESET;
 
-fn lengths(mended: Mended) {
+fn lengths(mended: Result<Sizes, Refusal>) {
     match mended {
-        Mended::Lengths(sizes) => {
+        Ok(sizes) => {
             print::given(b"mended", sizes.file as u64);
             print::field(sizes.list as u64)
         }
-        Mended::Refused(r) => print::refused(r.number, r.place),
+        Err(r) => print::refused(r.number, r.place),
     }
 }
 
@@ -24,33 +23,23 @@ fn mended(file: &[u8], out: &mut [u8], list: &mut [u8]) {
 }
 
 // With so many bytes lent for the file, and so many for the list.
-fn mended_with(file: &[u8], room: usize, list_room: usize)
-    requires room_bound { room ≤ 32768 }
-    requires list_room_bound { list_room ≤ 32768 }
-{
+fn mend_asked(p: &[u8]) -> Option<()> {
+    let file = wire::list(p, 0)?;
+    let room = wire::number(p, file.end)?;
+    let list_room = wire::number(p, room.end)?;
+    if (list_room.end != p.len()) | (room.value > 32768) | (list_room.value > 32768) {
+        return None;
+    }
     let mut out = [PRESET; 32768];
     let mut list = [PRESET; 32768];
-    mended(file, &mut out[0..room], &mut list[0..list_room])
+    mended(
+        &p[file.start..file.end],
+        &mut out[..room.value as usize],
+        &mut list[..list_room.value as usize],
+    );
+    Some(())
 }
 
 pub fn mend_request(p: &[u8]) {
-    let f = wire::list(p, 0);
-    let room = wire::number(p, f.end);
-    let list_room = wire::number(p, room.end);
-    if !(f.good & room.good & list_room.good & (list_room.end == p.len())) {
-        return print::bad();
-    }
-    if room.value > 32768 {
-        return print::bad();
-    }
-    if list_room.value > 32768 {
-        return print::bad();
-    }
-    let start = f.start;
-    let end = f.end;
-    mended_with(
-        &p[start..end],
-        room.value as usize,
-        list_room.value as usize,
-    )
+    mend_asked(p).unwrap_or_else(print::bad)
 }

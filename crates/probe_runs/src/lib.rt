@@ -3,38 +3,26 @@
 // remainders (4 each), two words (8 each), 128 numbers of unfinished predecessors (a byte each).
 #![tactic(auto)]
 
-ghost use Rattle.std.specs.Prelude.{◌≡◌, ◌≤◌, length};
-
-use graph::Answer;
-use late::Lateness;
-use schedule::Played;
-use tick::{Report, Run};
+use graph::Refusal;
+use tick::{Run, Step};
+use units::Ticks;
 use vset::Vset;
 use wire::PRESET_WORD;
 
-fn numbers_of(r: &[u8]) -> [u8; 128]
-    requires { length r.now ≡ 672 }
-{
-    let mut waiting = [0u8; 128];
-    let mut v = 0usize;
-    while v < 128 {
-        waiting[v] = r[544 + v];
-        v += 1;
+// The record that a payload holds, if it holds one and nothing else.
+fn record_of(r: &[u8]) -> Option<Run> {
+    if r.len() != 672 {
+        return None;
     }
-    waiting
-}
-
-fn record_of(r: &[u8]) -> Run
-    requires { length r.now ≡ 672 }
-{
-    let n = wire::number(r, 0);
-    let instant = wire::number(r, 8);
-    let low = wire::number(r, 528);
-    let high = wire::number(r, 536);
+    let n = wire::number(r, 0)?;
+    let instant = wire::number(r, 8)?;
+    let low = wire::number(r, 528)?;
+    let high = wire::number(r, 536)?;
     let mut left = [0u32; 128];
     wire::words(&r[16..528], &mut left);
-    let waiting = numbers_of(r);
-    Run {
+    let mut waiting = [0u8; 128];
+    waiting.copy_from_slice(&r[544..]);
+    Some(Run {
         n: n.value as usize,
         instant: instant.value,
         left,
@@ -43,7 +31,7 @@ fn record_of(r: &[u8]) -> Run
             hi: high.value,
         },
         waiting,
-    }
+    })
 }
 
 // ` : `, the record, and the line's end.
@@ -59,42 +47,52 @@ fn record(run: Run) {
     print::text(b"\n")
 }
 
-fn start(file: &[u8], times: &[u32]) {
-    let started = schedule::start(file, times);
-    let answer = started.answer;
-    let run = started.run;
-    match answer {
-        Answer::Accepted => print::text(b"started"),
-        Answer::Refused(r) => print::refused(r.number, r.place),
+// What stands beside a refused start: zero and unmarked throughout.
+fn unmarked() -> Run {
+    Run {
+        n: 0,
+        instant: 0,
+        left: [0; 128],
+        ran: Vset { lo: 0, hi: 0 },
+        waiting: [0; 128],
     }
-    record(run)
+}
+
+fn start(file: &[u8], times: &[u32]) {
+    match schedule::start(file, times) {
+        Ok(run) => {
+            print::text(b"started");
+            record(run)
+        }
+        Err(r) => {
+            print::refused(r.number, r.place);
+            record(unmarked())
+        }
+    }
 }
 
 // The times of a payload, laid in a list of their own, and the start that they give.
-fn start_with(file: &[u8], times: &[u8]) {
+fn start_asked(p: &[u8]) -> Option<()> {
+    let file = wire::list(p, 0)?;
+    let times = wire::list(p, file.end)?;
+    if (times.end != p.len()) | ((times.end - times.start) % 4 != 0) {
+        return None;
+    }
     let mut words = [0u32; 65536];
-    let n = wire::words(times, &mut words);
-    start(file, &words[0..n])
+    let n = wire::words(&p[times.start..times.end], &mut words);
+    start(&p[file.start..file.end], &words[..n]);
+    Some(())
 }
 
 pub fn start_request(p: &[u8]) {
-    let f = wire::list(p, 0);
-    let t = wire::list(p, f.end);
-    if !(f.good & t.good & (t.end == p.len()) & ((t.end - t.start) % 4 == 0)) {
-        return print::bad();
-    }
-    let file_start = f.start;
-    let file_end = f.end;
-    let times_start = t.start;
-    let times_end = t.end;
-    start_with(&p[file_start..file_end], &p[times_start..times_end])
+    start_asked(p).unwrap_or_else(print::bad)
 }
 
-fn report(what: Report, run: Run) {
+fn report(what: Result<Step, Refusal>, run: Run) {
     match what {
-        Report::Moved => print::text(b"moved"),
-        Report::Done => print::text(b"done"),
-        Report::Refused(r) => print::refused(r.number, r.place),
+        Ok(Step::Moved) => print::text(b"moved"),
+        Ok(Step::Done) => print::text(b"done"),
+        Err(r) => print::refused(r.number, r.place),
     }
     record(run)
 }
@@ -111,34 +109,25 @@ fn tick(run: Run, file: &[u8], in_place: bool) {
     report(what, next)
 }
 
-fn tick_with(file: &[u8], r: &[u8], in_place: bool) {
-    if r.len() != 672 {
-        return print::bad();
+fn tick_asked(p: &[u8], in_place: bool) -> Option<()> {
+    let file = wire::list(p, 0)?;
+    let r = wire::list(p, file.end)?;
+    if r.end != p.len() {
+        return None;
     }
-    tick(record_of(r), file, in_place)
+    let run = record_of(&p[r.start..r.end])?;
+    tick(run, &p[file.start..file.end], in_place);
+    Some(())
 }
 
 pub fn tick_request(p: &[u8], in_place: bool) {
-    let f = wire::list(p, 0);
-    let r = wire::list(p, f.end);
-    if !(f.good & r.good & (r.end == p.len())) {
-        return print::bad();
-    }
-    let file_start = f.start;
-    let file_end = f.end;
-    let record_start = r.start;
-    let record_end = r.end;
-    tick_with(
-        &p[file_start..file_end],
-        &p[record_start..record_end],
-        in_place,
-    )
+    tick_asked(p, in_place).unwrap_or_else(print::bad)
 }
 
-fn finish(played: Played) {
+fn finish(played: Result<Ticks, Refusal>) {
     match played {
-        Played::Finish(t) => print::given(b"finish", t.0),
-        Played::Refused(r) => print::refused(r.number, r.place),
+        Ok(t) => print::given(b"finish", t.0),
+        Err(r) => print::refused(r.number, r.place),
     }
 }
 
@@ -148,82 +137,60 @@ fn whole(file: &[u8], times: &[u32], lent: &mut [u32]) {
 }
 
 // The same for a whole run, with a list of so many places lent to it.
-fn whole_with(file: &[u8], times: &[u8], room: usize)
-    requires { room ≤ 32768 }
-{
+fn run_asked(p: &[u8]) -> Option<()> {
+    let file = wire::list(p, 0)?;
+    let times = wire::list(p, file.end)?;
+    let room = wire::number(p, times.end)?;
+    if (room.end != p.len()) | ((times.end - times.start) % 4 != 0) | (room.value > 32768) {
+        return None;
+    }
     let mut words = [0u32; 65536];
     let mut finishes = [PRESET_WORD; 32768];
-    let n = wire::words(times, &mut words);
-    whole(file, &words[0..n], &mut finishes[0..room])
+    let n = wire::words(&p[times.start..times.end], &mut words);
+    whole(
+        &p[file.start..file.end],
+        &words[..n],
+        &mut finishes[..room.value as usize],
+    );
+    Some(())
 }
 
 pub fn run_request(p: &[u8]) {
-    let f = wire::list(p, 0);
-    let t = wire::list(p, f.end);
-    let room = wire::number(p, t.end);
-    let cut = f.good & t.good & room.good & (room.end == p.len());
-    if !(cut & ((t.end - t.start) % 4 == 0)) {
-        return print::bad();
-    }
-    if room.value > 32768 {
-        return print::bad();
-    }
-    let file_start = f.start;
-    let file_end = f.end;
-    let times_start = t.start;
-    let times_end = t.end;
-    whole_with(
-        &p[file_start..file_end],
-        &p[times_start..times_end],
-        room.value as usize,
-    )
+    run_asked(p).unwrap_or_else(print::bad)
 }
 
 // A refusal stands before what is beside it.
-fn told(r: Lateness) {
-    let answer = r.answer;
-    match answer {
-        Answer::Accepted => {}
-        Answer::Refused(no) => {
-            print::refused(no.number, no.place);
-            print::text(b" ")
-        }
-    }
-    if r.yes {
-        print::given(b"yes played", r.played.0);
+fn told(yes: bool, played: Ticks) {
+    if yes {
+        print::given(b"yes played", played.0);
     } else {
-        print::given(b"no played", r.played.0);
+        print::given(b"no played", played.0);
     }
     print::text(b"\n")
 }
 
-fn late_with(file: &[u8], times: &[u8], d: u32) {
+// Times and a tick of 32 bits; a wider one is no request.
+fn late_asked(p: &[u8]) -> Option<()> {
+    let file = wire::list(p, 0)?;
+    let times = wire::list(p, file.end)?;
+    let tick = wire::number(p, times.end)?;
+    if (tick.end != p.len()) | ((times.end - times.start) % 4 != 0) {
+        return None;
+    }
+    let d = u32::try_from(tick.value).ok()?;
     let mut words = [0u32; 65536];
-    let n = wire::words(times, &mut words);
-    told(late::late(file, &words[0..n], d))
-}
-
-// Times and a tick of 32 bits stand from a place on, and nothing else.
-fn late_from(p: &[u8], at: usize, file: &[u8]) {
-    let t = wire::list(p, at);
-    let d = wire::number(p, t.end);
-    if !(t.good & d.good & (d.end == p.len()) & ((t.end - t.start) % 4 == 0)) {
-        return print::bad();
+    let n = wire::words(&p[times.start..times.end], &mut words);
+    match late::late(&p[file.start..file.end], &words[..n], d) {
+        Ok(r) => told(r.yes, r.played),
+        Err(r) => {
+            print::refused(r.number, r.place);
+            print::text(b" ");
+            told(false, Ticks(0))
+        }
     }
-    if d.value > 4294967295 {
-        return print::bad();
-    }
-    let start = t.start;
-    let end = t.end;
-    late_with(file, &p[start..end], d.value as u32)
+    Some(())
 }
 
 pub fn late_request(p: &[u8]) {
-    let f = wire::list(p, 0);
-    if !f.good {
-        return print::bad();
-    }
-    let start = f.start;
-    let end = f.end;
-    late_from(p, end, &p[start..end])
+    late_asked(p).unwrap_or_else(print::bad)
 }

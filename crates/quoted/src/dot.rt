@@ -1,19 +1,15 @@
 // Names within a quoted label of dot, which reads XML's marks as XML does, and in which a backslash is written twice.
-use crate::xml;
+use crate::{each, xml};
 use say::out;
 
 fn byte(b: u8, whole: bool) -> bool {
-    if b == b'\\' {
-        return out::text(b"\\\\");
+    match b {
+        b'\\' => out::text(b"\\\\"),
+        _ => xml::byte(b, whole),
     }
-    xml::byte(b, whole)
 }
 
 pub fn text(name: &[u8]) -> bool {
     let whole = xml::is_whole(name);
-    let mut written = true;
-    for i in 0..name.len() {
-        written = written & byte(name[i], whole);
-    }
-    written
+    each(name, |b| byte(b, whole))
 }

@@ -4,5 +4,20 @@
 
 pub mod dot;
 pub mod json;
-mod utf8;
 pub mod xml;
+
+// Whether bytes are UTF-8 (RFC 3629): no character longer than need be, none of the surrogates, none above U+10FFFF.
+fn is_utf8(name: &[u8]) -> bool {
+    std::str::from_utf8(name).is_ok()
+}
+
+// Each byte of a name, written as its form wants it. After a failure the others are tried all the same.
+fn each<F: Fn(u8) -> bool>(name: &[u8], write: F) -> bool
+    requires { F.IsAlwaysCallable write }
+{
+    let mut written = true;
+    for b in name {
+        written &= write(*b);
+    }
+    written
+}

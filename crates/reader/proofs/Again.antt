@@ -8,12 +8,11 @@ use Rattle.model.specs.Cycle.{cyclic}
 use Rattle.model.proofs.Bools.{cases}
 use Rattle.model.proofs.Cycles.{walk_cyclic}
 use Rattle.graph.specs.Model.{AcceptedGraph, as_model}
-use Rattle.graph.specs.declared.Answer.TheVariants.{Accepted}
 use Rattle.graph.specs.declared.Graph.{Graph}
 use Rattle.cycle.specs.Drawn.{drawn}
 use Rattle.cycle.proofs.Drawn.{drawn-cyclic}
-use Rattle.reader.specs.Laid.{Along, Usable}
-use Rattle.reader.specs.declared.Header.{Header}
+use Rattle.reader.specs.Laid.{LaidOut, Usable}
+use Rattle.reader.specs.declared.Laid.{Laid}
 
 module _ {g : Graph} (G : AcceptedGraph g) where
   no_cycle : cyclic (as_model g) ≡ false
@@ -26,6 +25,5 @@ module _ {g : Graph} (G : AcceptedGraph g) where
   pub none_again : {r : Bool} → r ≡ cyclic (as_model (drawn g.edge g.n g.edges)) → r ≡ false
   none_again e = e ∙ drawn-cyclic g ∙ no_cycle
 
-  pub usable_again : {h : Header} {st o : List ℕ} → h ≡ record { answer = Accepted; kinds = g.kinds; n = g.n; edges = g.edges } → Along g st o
-      → Usable h g.cores g.kind g.wcet g.edge st o
-  usable_again e A = rw e (record { accepted = G; along = A })
+  pub usable_again : {l : Laid} → LaidOut g l → Usable l
+  usable_again L = record { accepted = rw L.graph G; along = rw L.graph L.along; rows = rw L.graph L.rows }

@@ -1,48 +1,46 @@
 -- For our own layers alone: no contract for callers and no claim cites this file.
 --
--- The graph of a file in lists that are lent: c the cores of each type, k the types and w the WCETs of the vertices, e the edges, st where
--- each vertex's edges begin, o an order of the vertices along the edges. The header h has the counts.
+-- The graph of a file where it is lent, and what goes along it: where each vertex's edges begin, an order of the vertices along the edges, and
+-- each vertex's predecessors as rows.
 --
---   Blank c k w e o               the tables before anything stands in them
---   graph_in h c k w e             the graph that the counts and lists are
---   Along g st o                  st are the starts of the edges of g, and o is an order along them
---   LaidOut g h c k w e st o      the counts and lists are the graph g, and go along it
---   TakenInto s h c k w e st o    the reader's answer, and where the file is accepted its graph
---   RowsInto s p                  where the file is accepted, the table p has each vertex's predecessors
---   KinInto s p a                 the same, and the table a its ancestors
---   Usable h c k w e st o         the lists are those of an accepted graph
-use Rattle.std.specs.Prelude.{◌≡◌, List, ℕ, length, replicate}
+--   Blank l            what is lent before anything stands in it
+--   Along g st o       st are the starts of the edges of g, and o is an order along them
+--   LaidOut g l        l holds the graph g and what goes along it
+--   TakenInto s r l    r is the reader's answer for the file s, and where the file is accepted l holds its graph
+--   RowsInto s p       where the file is accepted, the table p has each vertex's predecessors
+--   KinInto s p a      the same, and the table a its ancestors
+--   Usable l           what l holds is an accepted graph
+--   on_cores l c       l with other numbers of cores, c
+use Rattle.std.specs.Prelude.{◌≡◌, List, ℕ, length}
 use Rattle.model.specs.Places.{table}
+use Rattle.graph.specs.File.{no_graph_of}
+use Rattle.graph.specs.Answer.{Answer, Accepted}
 use Rattle.graph.specs.Judge.{read_of}
 use Rattle.graph.specs.Model.{AcceptedGraph}
-use Rattle.graph.specs.declared.Answer.TheVariants.{Accepted}
 use Rattle.graph.specs.declared.Graph.{Graph}
+use Rattle.graph.specs.declared.Refusal.{Refusal}
 use Rattle.starts.specs.Starts.{first_edge, Ordered}
-use Rattle.sets.specs.Sets.{Holds}
+use Rattle.sets.specs.Sets.{empty, Holds}
 use Rattle.rows.specs.Rows.{predecessor, Kin}
-use Rattle.reader.specs.declared.Header.{Header}
+use Rattle.reader.specs.declared.Laid.{Laid}
 
-pub record Blank (c k w e o : List ℕ) : Type 0 where
-  pub cores : c ≡ replicate 10 0
-  pub kind : k ≡ replicate 128 0
-  pub wcet : w ≡ replicate 128 0
-  pub edge : e ≡ replicate 1024 0
-  pub order : length o ≡ 128
-
-abbrev pub graph_in : Header → List ℕ → List ℕ → List ℕ → List ℕ → Graph
-graph_in h c k w e = record { kinds = h.kinds; n = h.n; edges = h.edges; cores = c; kind = k; wcet = w; edge = e }
+pub record Blank (l : Laid) : Type 0 where
+  pub graph : l.graph ≡ no_graph_of
+  pub order : length l.order ≡ 128
+  pub pred : l.pred ≡ empty
 
 pub record Along (g : Graph) (st o : List ℕ) : Type 0 where
   pub starts : st ≡ table (first_edge g) 129
   pub order : Ordered g.edge g.edges g.n o
 
-pub record LaidOut (g : Graph) (h : Header) (c k w e st o : List ℕ) : Type 0 where
-  pub graph : graph_in h c k w e ≡ g
-  pub along : Along g st o
+pub record LaidOut (g : Graph) (l : Laid) : Type 0 where
+  pub graph : l.graph ≡ g
+  pub along : Along g l.starts l.order
+  pub rows : Holds l.pred (predecessor g.edge g.edges)
 
-pub record TakenInto (s : List ℕ) (h : Header) (c k w e st o : List ℕ) : Type 0 where
-  pub answer : h.answer ≡ (read_of s).answer
-  pub laid : (read_of s).answer ≡ Accepted → LaidOut (read_of s).graph h c k w e st o
+pub record TakenInto (s : List ℕ) (r : Answer) (l : Laid) : Type 0 where
+  pub answer : r ≡ (read_of s).answer
+  pub laid : (read_of s).answer ≡ Accepted → LaidOut (read_of s).graph l
 
 abbrev pub RowsInto : List ℕ → List (List ℕ) → Type 0
 RowsInto s p = (read_of s).answer ≡ Accepted → Holds p (predecessor (read_of s).graph.edge (read_of s).graph.edges)
@@ -50,6 +48,12 @@ RowsInto s p = (read_of s).answer ≡ Accepted → Holds p (predecessor (read_of
 abbrev pub KinInto : List ℕ → List (List ℕ) → List (List ℕ) → Type 0
 KinInto s p a = (read_of s).answer ≡ Accepted → Kin (read_of s).graph p a
 
-pub record Usable (h : Header) (c k w e st o : List ℕ) : Type 0 where
-  pub accepted : AcceptedGraph (graph_in h c k w e)
-  pub along : Along (graph_in h c k w e) st o
+pub record Usable (l : Laid) : Type 0 where
+  pub accepted : AcceptedGraph l.graph
+  pub along : Along l.graph l.starts l.order
+  pub rows : Holds l.pred (predecessor l.graph.edge l.graph.edges)
+
+-- the same with other numbers of cores
+abbrev pub on_cores : Laid → List ℕ → Laid
+on_cores l c =
+    record { graph = record { kinds = l.graph.kinds; n = l.graph.n; edges = l.graph.edges; cores = c; kind = l.graph.kind; wcet = l.graph.wcet; edge = l.graph.edge }; starts = l.starts; order = l.order; pred = l.pred }

@@ -6,27 +6,13 @@ ghost use Rattle.graph.specs.File.{records, column, words, keys};
 use records::{byte, key, word};
 
 // Byte 2 of `n` records from `base` on: the cores of each type, or the types of the vertices.
-pub(crate) fn cores_of(file: &[u8], base: usize, n: usize, a: &mut [u8; 10])
-    requires n_bound { (n ≤ 10) × (base + n ≤ records file.now) }
-    requires a_value { a.old ≡ replicate 10 0 }
-    ensures { a.new ≡ padded 10 (column file.now base 2) n }
+pub(crate) fn column_of<const N: usize>(file: &[u8], base: usize, n: usize, a: &mut [u8; N])
+    requires n_bound { (n ≤ N) × (base + n ≤ records file.now) }
+    requires a_value { a.old ≡ replicate N 0 }
+    ensures { a.new ≡ padded N (column file.now base 2) n }
 {
-    let mut i = 0;
-    while i < n {
+    for i in 0..n {
         a[i] = byte(file, base + i, 2) as u8;
-        i += 1;
-    }
-}
-
-pub(crate) fn kind_of(file: &[u8], base: usize, n: usize, a: &mut [u8; 128])
-    requires n_bound { (n ≤ 128) × (base + n ≤ records file.now) }
-    requires a_value { a.old ≡ replicate 128 0 }
-    ensures { a.new ≡ padded 128 (column file.now base 2) n }
-{
-    let mut i = 0;
-    while i < n {
-        a[i] = byte(file, base + i, 2) as u8;
-        i += 1;
     }
 }
 
@@ -35,10 +21,8 @@ pub(crate) fn wcet_of(file: &[u8], base: usize, n: usize, a: &mut [u32; 128])
     requires a_value { a.old ≡ replicate 128 0 }
     ensures { a.new ≡ padded 128 (words file.now base) n }
 {
-    let mut i = 0;
-    while i < n {
+    for i in 0..n {
         a[i] = word(file, base + i) as u32;
-        i += 1;
     }
 }
 
@@ -48,9 +32,7 @@ pub(crate) fn edge_of(file: &[u8], base: usize, n: usize, a: &mut [u16; 1024])
     requires a_value { a.old ≡ replicate 1024 0 }
     ensures { a.new ≡ padded 1024 (keys file.now base) n }
 {
-    let mut i = 0;
-    while i < n {
+    for i in 0..n {
         a[i] = key(file, base + i) as u16;
-        i += 1;
     }
 }

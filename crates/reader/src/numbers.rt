@@ -16,8 +16,7 @@ use rules::{counts_fail, record_fails};
 fn per_record(number: u32) -> bool
     ensures { result ≡ per_record_of number }
 {
-    (number == 2)
-        | ((number == 3) | ((number == 5) | ((number == 7) | ((number == 9) | (number == 10)))))
+    matches!(number, 2 | 3 | 5 | 7 | 9 | 10)
 }
 
 // How many places a number is tested for.
@@ -38,14 +37,11 @@ fn scan(file: &[u8], number: u32, c: Counts) -> usize
 {
     let m = file.len() / 8;
     let mut p = start();
-    let mut k = 0;
-    while k < m {
+    for k in 0..m {
         if record_fails(file, number, k, p, c) {
             return k;
         }
-        let next = pass(file, k, p);
-        p = next;
-        k += 1;
+        p = pass(file, k, p);
     }
     m
 }
@@ -61,52 +57,34 @@ fn place(file: &[u8], number: u32, c: Counts) -> usize
     if counts_fail(number, c) { 0 } else { 1 }
 }
 
-// The lowest number from 2 to 10 that applies, with its place; or 11, where none does. The numbers are tested in order.
-fn by_number(file: &[u8], c: Counts) -> Refusal
+// The lowest number from 2 to 10 that applies, with its place. The numbers are tested in order.
+fn by_number(file: &[u8], c: Counts) -> Result<(), Refusal>
     requires { Counted file.now c × (length file.now ≤ 9320) }
     ensures { result ≡ lowest_in_of file.now }
 {
-    let mut number = 2;
-    while number < 11 {
-        let m = span(file, number);
+    for number in 2..11 {
         let at = place(file, number, c);
-        if at < m {
-            return Refusal {
+        if at < span(file, number) {
+            return Err(Refusal {
                 number,
                 place: at as u32,
-            };
+            });
         }
-        number += 1;
     }
-    Refusal {
-        number: 11,
-        place: 0,
-    }
+    Ok(())
 }
 
-// The number that was found, and how many records there are of each kind.
-#[derive(Clone, Copy)]
-pub struct Judged {
-    pub refusal: Refusal,
-    pub counts: Counts,
-}
-
-// A file as it should be is passed once. Only where that does not reach the end are the numbers tested, one after another.
-pub(crate) fn lowest(file: &[u8]) -> Judged
+// How many records there are of each kind, where none of these numbers applies. A file as it should be is passed once. Only where that does
+// not reach the end are the numbers tested, one after another.
+pub(crate) fn lowest(file: &[u8]) -> Result<Counts, Refusal>
     requires { length file.now ≤ 9320 }
     ensures { Found file.now result }
 {
     let plain = plain::counts(file);
     if plain::whole(file, plain) {
-        return Judged {
-            refusal: Refusal {
-                number: 11,
-                place: 0,
-            },
-            counts: plain,
-        };
+        return Ok(plain);
     }
     let counts = records::count_all(file);
-    let refusal = by_number(file, counts);
-    Judged { refusal, counts }
+    by_number(file, counts)?;
+    Ok(counts)
 }

@@ -10,7 +10,6 @@ use Rattle.model.specs.Cycle.{Walk, one, step, Acyclic, Ranked}
 use Rattle.model.proofs.Bools.{clash, both, left-of, right_of, or_left, or_right, or_cases}
 use Rattle.model.proofs.Places.{any_intro, any_elim}
 use Rattle.model.proofs.Cycles.{walk_join, ranked, rank_below}
-use Rattle.graph.specs.Model.{from, to}
 use Rattle.ready.specs.Ready.{behind_within, is_behind}
 
 -- the last edge of a walk

@@ -10,10 +10,8 @@ pub fn busy(left: [u32; 128]) -> Vset
     ensures { Members result (some_left left) }
 {
     let mut got = vset::none();
-    let mut v = 0usize;
-    while v < 128 {
-        got = vset::with_if(got, v, 0 < left[v]);
-        v += 1;
+    for (v, ticks) in left.iter().enumerate() {
+        got = vset::with_if(got, v, 0 < *ticks);
     }
     got
 }

@@ -4,39 +4,33 @@
 pub mod fault;
 pub mod log;
 
-ghost use Rattle.std.specs.Prelude.{◌≤◌, ◌<◌};
+ghost use Rattle.std.specs.Prelude.{◌<◌};
 
 use board::Names;
+use faults::Wrong;
 use graph::Refusal;
 use std::rt::Env;
-
-fn least(a: usize, b: usize) -> usize
-    ensures { (result ≤ a) × (result ≤ b) }
-{
-    if a < b { a } else { b }
-}
 
 fn from(edge: u16) -> usize
     ensures { result < 128 }
 {
-    (edge / 256 % 128) as usize
+    usize::from(edge / 256 % 128)
 }
 
 fn to(edge: u16) -> usize
     ensures { result < 128 }
 {
-    (edge % 128) as usize
+    usize::from(edge % 128)
 }
 
 // Marks where each edge from v, and from what is marked, leads; whether any mark is new.
-fn sweep(edge: &[u16; 1024], n: usize, v: usize, marks: &mut [u8; 128]) -> bool {
+fn sweep(edge: &[u16; 1024], n: usize, v: usize, marks: &mut [bool; 128]) -> bool {
     let mut grown = false;
-    let end = least(n, 1024);
-    for i in 0..end {
-        let u = from(edge[i]);
-        let w = to(edge[i]);
-        if ((u == v) | (marks[u] != 0)) & (marks[w] == 0) {
-            marks[w] = 1;
+    for &edge in edge.iter().take(n) {
+        let u = from(edge);
+        let w = to(edge);
+        if ((u == v) | marks[u]) & !marks[w] {
+            marks[w] = true;
             grown = true;
         }
     }
@@ -45,33 +39,23 @@ fn sweep(edge: &[u16; 1024], n: usize, v: usize, marks: &mut [u8; 128]) -> bool 
 
 // Whether edges lead from v back to v.
 fn comes_back(edge: &[u16; 1024], n: usize, v: usize) -> bool {
-    let mut marks = [0u8; 128];
-    for i in 0..128usize {
+    let mut marks = [false; 128];
+    for _ in 0..128 {
         if !sweep(edge, n, v, &mut marks) {
-            return marks[v % 128] != 0;
+            return marks[v % 128];
         }
     }
-    marks[v % 128] != 0
+    marks[v % 128]
 }
 
 // The first stage that lies on a cycle.
 fn on_cycle(edge: &[u16; 1024], n: usize) -> usize {
-    for v in 0..128 {
-        if comes_back(edge, n, v) {
-            return v;
-        }
-    }
-    0
-}
-
-// How far a place is past a count; 0 where it is not.
-fn past(place: usize, count: usize) -> usize {
-    if count <= place { place - count } else { 0 }
+    (0..128).find(|&v| comes_back(edge, n, v)).unwrap_or(0)
 }
 
 // The stage that the edge i leads to.
 fn waiting(edge: &[u16; 1024], i: usize) -> usize {
-    if i < 1024 { to(edge[i]) } else { 0 }
+    edge.get(i).map_or(0, |&edge| to(edge))
 }
 
 // The line of the text, which argument k names, that the writer's refusal of its n edges and its other lists is about. No other number can be: the
@@ -87,20 +71,20 @@ pub fn said(
 ) -> bool {
     let number = r.number;
     let record = r.place as usize;
-    let stage = past(record, names.kinds);
+    let stage = record.saturating_sub(names.kinds);
     match number {
-        4 => fault::said(rt, k, t, faults::KINDS_NONE, t.len(), t.len()),
-        5 => fault::said_kind(rt, k, t, names, faults::CORES, record),
-        6 => fault::said(rt, k, t, faults::STAGES_NONE, t.len(), t.len()),
-        7 => fault::said_stage(rt, k, t, names, faults::WCET, stage),
+        4 => fault::said(rt, k, t, Wrong::KindsNone, t.len(), t.len()),
+        5 => fault::said_kind(rt, k, t, names, Wrong::Cores, record),
+        6 => fault::said(rt, k, t, Wrong::StagesNone, t.len(), t.len()),
+        7 => fault::said_stage(rt, k, t, names, Wrong::Wcet, stage),
         9 => fault::said_stage(
             rt,
             k,
             t,
             names,
-            faults::ITSELF,
-            waiting(edge, past(stage, names.stages)),
+            Wrong::Itself,
+            waiting(edge, stage.saturating_sub(names.stages)),
         ),
-        _ => fault::said_stage(rt, k, t, names, faults::CYCLE, on_cycle(edge, n)),
+        _ => fault::said_stage(rt, k, t, names, Wrong::Cycle, on_cycle(edge, n)),
     }
 }

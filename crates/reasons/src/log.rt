@@ -1,48 +1,41 @@
 // What a refused log has wrong: docs/LOG.md has the rules.
-ghost use Rattle.std.specs.Prelude.{◌≤◌};
-
 use board::Names;
 use graph::Refusal;
 use say::{names, out};
 use std::rt::Env;
 
-fn wide(b: u8) -> u64
-    ensures { result ≤ 255 }
-{
-    b as u64
-}
-
 // Byte i of record k; 0 where there is none.
-fn byte(log: &[u8], k: usize, i: usize) -> u64
-    ensures { result ≤ 255 }
-{
+fn byte(log: &[u8], k: usize, i: usize) -> u8 {
     let at = (k % 8192) * 8 + i % 8;
-    if at < log.len() {
-        return wide(log[at]);
-    }
-    0
+    log.get(at).copied().unwrap_or(0)
 }
 
-fn instant(log: &[u8], k: usize) -> u64 {
-    let low = byte(log, k, 4) + 256 * byte(log, k, 5);
-    low + 65536 * byte(log, k, 6) + 16777216 * byte(log, k, 7)
+fn instant(log: &[u8], k: usize) -> u32 {
+    u32::from_le_bytes([
+        byte(log, k, 4),
+        byte(log, k, 5),
+        byte(log, k, 6),
+        byte(log, k, 7),
+    ])
 }
 
-fn quoted(t: &[u8], of: Names, v: u64) -> bool {
-    out::text(b"\"") & names::stage(t, of, (v % 256) as usize) & out::text(b"\"")
+fn quoted(t: &[u8], of: Names, v: usize) -> bool {
+    out::text(b"\"") & names::stage(t, of, v) & out::text(b"\"")
 }
 
 // A record, its stage, and when.
 fn start(log: &[u8], t: &[u8], of: Names, k: usize) -> bool {
     let first = out::text(b"record") & out::field(k as u64) & out::text(b": ");
-    first & quoted(t, of, byte(log, k, 1)) & out::text(b" starts at") & out::field(instant(log, k))
+    let stage = usize::from(byte(log, k, 1));
+    let when = u64::from(instant(log, k));
+    first & quoted(t, of, stage) & out::text(b" starts at") & out::field(when)
 }
 
 // Whether record 0 starts one of n stages, as it should.
 fn begins(log: &[u8], n: usize) -> bool {
-    let spare = byte(log, 0, 2) + byte(log, 0, 3);
-    let known = (byte(log, 0, 0) == 83) & (byte(log, 0, 1) < n as u64);
-    known & (spare == 0) & (instant(log, 0) <= 128000000)
+    let known = (byte(log, 0, 0) == b'S') & (usize::from(byte(log, 0, 1)) < n);
+    let spare = (byte(log, 0, 2) != 0) | (byte(log, 0, 3) != 0);
+    known & !spare & (instant(log, 0) <= 128000000)
 }
 
 // A wrong length, the first record at fault, or, where record 0 is none, a stage that is left running.
@@ -70,7 +63,7 @@ pub fn rule(number: u32) -> bool {
 fn subject(log: &[u8], t: &[u8], of: Names, r: Refusal) -> bool {
     let number = r.number;
     match number {
-        21 => out::text(b"stage ") & quoted(t, of, r.place as u64),
+        21 => out::text(b"stage ") & quoted(t, of, (r.place % 256) as usize),
         22 => out::text(b"at") & out::field(r.place as u64),
         _ => start(log, t, of, (r.place % 8192) as usize),
     }

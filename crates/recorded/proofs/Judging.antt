@@ -12,7 +12,7 @@ use Rattle.model.specs.Graph.{Graph}
 use Rattle.model.proofs.Bools.{le-or-lt}
 use Rattle.model.proofs.Places.{first-at, first-none, first_below, first-here}
 use Rattle.graph.specs.declared.Refusal.{Refusal}
-use Rattle.graph.specs.declared.Answer.TheVariants.{Accepted, Refused}
+use Rattle.graph.specs.Answer.{Accepted, Refused}
 use Rattle.recorded.specs.Log.{InForm}
 use Rattle.recorded.specs.Rules.{Passes, holds, number, places}
 use Rattle.recorded.specs.Judge.{place_of, applies, first_row, judge_log, Rightly}

@@ -10,8 +10,8 @@ use Rattle.model.specs.Graph.{Graph}
 use Rattle.model.specs.Schedule.{left}
 use Rattle.model.specs.ListSchedule.{finished_within, finished, ready, goes_on_next, waits, chosen, leap, steps, list_schedule}
 use Rattle.graph.specs.File.{word_at}
-use Rattle.graph.specs.declared.Answer.{Answer}
-use Rattle.graph.specs.declared.Answer.TheVariants.{Accepted, Refused}
+use Rattle.graph.specs.Answer.{Answer}
+use Rattle.graph.specs.Answer.{Accepted, Refused}
 use Rattle.recorded.specs.Log.{is_start, is_stop, instant_at, key, starts, stops, running, unknown_kind, unknown_vertex, spare_set, wrong_order, start_while_running, stop_while_not_running, too_late, fault, wrong_length_of, unended}
 use Rattle.recorded.specs.Recorded.{last_instant, started_by, stopped_by, runs_in, ran_ticks, total, schedule_of, finish_in_of}
 use Rattle.recorded.specs.Rules.{rule19, rule20, rule21, rule22, waiting, holds, number, places}

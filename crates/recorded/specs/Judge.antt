@@ -12,8 +12,8 @@ use Rattle.model.specs.Places.{pick, first}
 use Rattle.model.specs.Graph.{Graph}
 use Rattle.model.specs.Schedule.{Times, WorkConserving}
 use Rattle.graph.specs.declared.Refusal.{Refusal}
-use Rattle.graph.specs.declared.Answer.{Answer}
-use Rattle.graph.specs.declared.Answer.TheVariants.{Accepted, Refused}
+use Rattle.graph.specs.Answer.{Answer}
+use Rattle.graph.specs.Answer.{Accepted, Refused}
 use Rattle.recorded.specs.Log.{InForm}
 use Rattle.recorded.specs.Recorded.{schedule_of}
 use Rattle.recorded.specs.Rules.{holds, number, places}

@@ -1,5 +1,5 @@
 -- A pass from record to record: with none, with one more, with all.
-use mathlib.Core.Path.{◌≡◌, refl, sym}
+use mathlib.Core.Path.{refl, sym}
 use mathlib.Core.List.{List}
 use Prim.Native.Nat.{ℕ, ◌+◌, max}
 use native.Mathlib.Numerals.{add-one}

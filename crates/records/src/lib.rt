@@ -2,7 +2,6 @@
 #![tactic(auto)]
 
 ghost use Rattle.std.specs.Prelude.{◌≡◌, List, ℕ, ◌+◌, ◌<◌, ◌≤◌, max};
-ghost use Rattle.model.specs.Places.{bit};
 ghost use Rattle.graph.specs.File.{records, byte_at, word_at, key_at, order};
 ghost use Rattle.records.specs.Passing.{Counted, Before};
 
@@ -33,7 +32,8 @@ pub fn key(file: &[u8], k: usize) -> usize
     256 * byte(file, k, 1) + byte(file, k, 2)
 }
 
-// 0 for a type record, 1 for a vertex, 2 for an edge, 3 for no known kind.
+// 0 for a type record, 1 for a vertex, 2 for an edge, 3 for no known kind. A number, as in `order` of the graph's file: the contracts compare these by size,
+// and `latest` is the largest of them.
 pub fn order_of(file: &[u8], k: usize) -> usize
     requires { k < records file.now }
     ensures { (result ≡ order file.now k) × (result < 4) }
@@ -49,13 +49,6 @@ pub fn order_of(file: &[u8], k: usize) -> usize
         return 2;
     }
     3
-}
-
-// 1 where `b` holds, else 0: what a loop that counts adds, with no branch of its own.
-fn one(b: bool) -> usize
-    ensures { (result ≡ bit b) × (result ≤ 1) }
-{
-    if b { 1 } else { 0 }
 }
 
 // What a pass over the records has met: how many of each kind, and the latest order.
@@ -86,17 +79,11 @@ pub fn pass(file: &[u8], k: usize, p: Passed) -> Passed
 {
     let order = order_of(file, k);
     Passed {
-        kinds: p.kinds + one(order == 0),
-        vertices: p.vertices + one(order == 1),
-        edges: p.edges + one(order == 2),
-        latest: larger(p.latest, order),
+        kinds: p.kinds + usize::from(order == 0),
+        vertices: p.vertices + usize::from(order == 1),
+        edges: p.edges + usize::from(order == 2),
+        latest: p.latest.max(order),
     }
-}
-
-fn larger(x: usize, y: usize) -> usize
-    ensures { result ≡ max x y }
-{
-    if x < y { y } else { x }
 }
 
 // How many records there are of each kind.
@@ -112,11 +99,8 @@ pub fn count_all(file: &[u8]) -> Counts
 {
     let m = file.len() / 8;
     let mut p = start();
-    let mut k = 0;
-    while k < m {
-        let next = pass(file, k, p);
-        p = next;
-        k += 1;
+    for k in 0..m {
+        p = pass(file, k, p);
     }
     Counts {
         kinds: p.kinds,

@@ -3,8 +3,6 @@ use mathlib.Core.Path.{◌≡◌, refl, sym, ◌∙◌}
 use Rattle.outcome.specs.OneOutcome.{OneOutcome}
 use Rattle.vset.proofs.Same.{same_set}
 use Rattle.remains.proofs.Fewest.{least-same}
-use Rattle.remains.specs.contracts.lesser as lesser
-use Rattle.remains.proofs.lesser.Reads as lesser-reads
 use Rattle.remains.specs.contracts.least as least
 use Rattle.remains.proofs.least.Reads as least-reads
 use Rattle.remains.specs.contracts.lower as lower
@@ -15,9 +13,6 @@ use Rattle.remains.specs.contracts.total as total
 use Rattle.remains.proofs.total.Reads as total-reads
 use Rattle.remains.specs.contracts.in_time as in_time
 use Rattle.remains.proofs.in_time.Reads as in-time-reads
-
-pub lesser-one : OneOutcome lesser.ended lesser-reads.Pre lesser-reads.Post
-lesser-one κs a r r' ws ws' pre p q = (p ∙ sym q, refl)
 
 pub least-one : OneOutcome least.ended least-reads.Pre least-reads.Post
 least-one κs a r r' ws ws' pre p q = (least-same _ _ _ r r' p q, refl)

@@ -11,17 +11,11 @@ use vset::Vset;
 // The highest number. It stands for the fewest ticks left where there is nobody.
 pub const TOP: u32 = 4294967295;
 
-pub fn lesser(a: u32, b: u32) -> u32
-    ensures { result ≡ min a b }
-{
-    if b < a { b } else { a }
-}
-
-// The lesser of the two, or a where b does not count.
+// The lesser of the two, or a where b does not count. A loop that calls this has no branch of its own.
 fn lesser_if(a: u32, b: u32, on: bool) -> u32
     ensures { result ≡ pick on (min a b) a }
 {
-    if on { lesser(a, b) } else { a }
+    if on { a.min(b) } else { a }
 }
 
 // The fewest ticks left of a vertex in `on`, or `top` where nobody there has as few.
@@ -33,7 +27,7 @@ pub fn least(left: &[u32; 128], on: Vset, top: u32) -> u32
     while !vset::is_empty(rest) {
         let next = vset::next(rest);
         let v = next.v;
-        best = lesser(best, left[v]);
+        best = best.min(left[v]);
         rest = next.rest;
     }
     best
@@ -74,10 +68,8 @@ pub fn within(left: [u32; 128], wcet: [u32; 128]) -> bool
     ensures { result ≡ every (no_more left wcet) 128 }
 {
     let mut ok = true;
-    let mut v = 0usize;
-    while v < 128 {
-        ok = ok & (left[v] <= wcet[v]);
-        v += 1;
+    for (v, ticks) in left.iter().enumerate() {
+        ok = ok & (*ticks <= wcet[v]);
     }
     ok
 }
@@ -88,10 +80,8 @@ pub fn total(left: [u32; 128], n: usize) -> u64
     ensures { result ≡ sum (place left) n }
 {
     let mut got = 0u64;
-    let mut v = 0usize;
-    while v < n {
-        got += left[v] as u64;
-        v += 1;
+    for ticks in &left[..n] {
+        got += *ticks as u64;
     }
     got
 }
@@ -100,9 +90,5 @@ pub fn total(left: [u32; 128], n: usize) -> u64
 pub fn in_time(instant: u64, rest: u64, most: u64) -> bool
     ensures { result ≡ leb (instant + rest) most }
 {
-    if rest <= most {
-        instant <= most - rest
-    } else {
-        false
-    }
+    rest <= most && instant <= most - rest
 }

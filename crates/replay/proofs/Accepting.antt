@@ -1,4 +1,5 @@
 -- Order 7 from the file's bytes: which logs are accepted, with what finish and times, and demand 3 for each of them.
+use Rattle.std.specs.Prelude.{Ok, Err}
 use mathlib.Core.Path.{◌≡◌, refl, sym, ap, ◌∙◌}
 use mathlib.Core.Logic.{◌⊎◌, inl, inr}
 use mathlib.Core.List.{List, ◌++◌}
@@ -18,15 +19,15 @@ use Rattle.graph.specs.Judge.{read_of}
 use Rattle.graph.specs.Model.{as_model, AcceptedGraph}
 use Rattle.graph.specs.declared.Graph.{Graph}
 use Rattle.graph.specs.declared.Refusal.{Refusal}
-use Rattle.graph.specs.declared.Answer.{Answer}
-use Rattle.graph.specs.declared.Answer.TheVariants as answers
+use Rattle.graph.specs.Answer.{Answer}
+use Rattle.graph.specs.Answer as answers
 use Rattle.graph.proofs.Accepted as reader
 use Rattle.units.specs.declared.Ticks.{Ticks}
 use Rattle.recorded.specs.Recorded.{last_instant, total, schedule_of, finish_in_of}
 use Rattle.recorded.specs.Judge.{judge_log, Rightly, Conforms}
 use Rattle.replay.specs.Answers.{replay_beside, replay_on_of, replay_of, times_after_of}
-use Rattle.replay.specs.declared.Replayed.{Replayed}
-use Rattle.replay.specs.declared.Replayed.TheVariants.{Finish, Refused}
+use Rattle.replay.specs.Replayed.{Replayed}
+use Rattle.replay.specs.Replayed.{Finish, Refused}
 use Rattle.recorded.proofs.Conserving.{passes_conserving, passes_times, conserving_passes}
 use Rattle.recorded.proofs.Finishing.{finish_in, finish-is}
 use Rattle.recorded.proofs.Judging as judging
@@ -34,8 +35,8 @@ use Rattle.recorded.proofs.Judging as judging
 -- an answer that is a finish comes of an accepted log, and a refusal of a refused one
 beside-finish : (a : Answer) (g : Graph) (l : List ℕ) (x : Replayed) → replay_beside a g l ≡ x
     → ((a ≡ answers.Accepted) × (x ≡ Finish (record { 0 = finish_in_of (as_model g) l }))) ⊎ ((r : Refusal) × (a ≡ answers.Refused r) × (x ≡ Refused r))
-beside-finish answers.Accepted g l x e = inl (refl, sym e)
-beside-finish (answers.Refused r) g l x e = inr (r, refl, sym e)
+beside-finish (Ok _) g l x e = inl (refl, sym e)
+beside-finish (Err r) g l x e = inr (r, refl, sym e)
 
 module _ (s : List ℕ) (bytes : (i : ℕ) → get_or s i 0 < 256) (ok : (read_of s).answer ≡ answers.Accepted) (l : List ℕ) (room : ℕ) where
   abbrev G : model.Graph

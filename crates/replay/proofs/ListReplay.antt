@@ -16,12 +16,12 @@ use Rattle.leaps.specs.Finishes.{finish_of}
 use Rattle.leaps.proofs.Finishes.{finish-of-all}
 use Rattle.graph.specs.Judge.{read_of}
 use Rattle.graph.specs.Model.{as_model, AcceptedGraph}
-use Rattle.graph.specs.declared.Answer.TheVariants as answers
+use Rattle.graph.specs.Answer as answers
 use Rattle.graph.proofs.Accepted as reader
 use Rattle.recorded.specs.Recorded.{total, finish_in_of}
 use Rattle.replay.specs.Answers.{replay_of, times_after_of}
 use Rattle.recorded.specs.LogOf.{log_of}
-use Rattle.replay.specs.declared.Replayed.TheVariants.{Finish}
+use Rattle.replay.specs.Replayed.{Finish}
 use Rattle.replay.proofs.Accepting.{accepts, times-given}
 use Rattle.recorded.proofs.ListLog.{list-log_conforms, list-log-times, list-log-finish, list-log-bytes}
 use Rattle.recorded.proofs.Empty.{empty_conforms, empty-times, empty-finish}

@@ -6,40 +6,40 @@
 --   of_replayed p            the answer in document 01's numbers: its value is the finish
 --   times_beside p g l old   the lent list, which held old, beside the answer p: the times of the vertices, and past N what it held
 --   times_after_of s l old      what the lent list holds at the end
+use Rattle.std.specs.Prelude.{Ok, Err}
 use Rattle.std.specs.Prelude.{List, ◌++◌, ℕ, length, drop}
 use Rattle.model.specs.Places.{table}
 use Rattle.graph.specs.Judge.{read_of}
 use Rattle.graph.specs.Model.{as_model}
 use Rattle.graph.specs.Said.{Said, said_no}
 use Rattle.graph.specs.declared.Graph.{Graph}
-use Rattle.graph.specs.declared.Answer.{Answer}
-use Rattle.graph.specs.declared.Answer.TheVariants as answers
+use Rattle.graph.specs.Answer.{Answer}
 use Rattle.recorded.specs.Recorded.{total, finish_in_of}
 use Rattle.recorded.specs.Judge.{judge_log}
-use Rattle.replay.specs.declared.Replayed.{Replayed}
-use Rattle.replay.specs.declared.Replayed.TheVariants.{Finish, Refused}
+use Rattle.replay.specs.Replayed.{Replayed}
+use Rattle.replay.specs.Replayed.{Finish, Refused}
 
 abbrev pub replay_beside : Answer → Graph → List ℕ → Replayed
-replay_beside answers.Accepted g l = Finish (record { 0 = finish_in_of (as_model g) l })
-replay_beside (answers.Refused r) g l = Refused r
+replay_beside (Ok _) g l = Finish (record { 0 = finish_in_of (as_model g) l })
+replay_beside (Err r) g l = Refused r
 
 unfoldable pub replay_on_of : Graph → List ℕ → ℕ → Replayed
 replay_on_of g l room = replay_beside (judge_log (as_model g) l room) g l
 
 abbrev pub replay_after : Answer → Graph → List ℕ → ℕ → Replayed
-replay_after answers.Accepted g l room = replay_on_of g l room
-replay_after (answers.Refused r) g l room = Refused r
+replay_after (Ok _) g l room = replay_on_of g l room
+replay_after (Err r) g l room = Refused r
 
 unfoldable pub replay_of : List ℕ → List ℕ → ℕ → Replayed
 replay_of s l room = replay_after (read_of s).answer (read_of s).graph l room
 
 abbrev pub of_replayed : Replayed → Said
-of_replayed (Finish t) = record { number = 0; place = 0; value = t.0 }
-of_replayed (Refused r) = said_no r
+of_replayed (Ok t) = record { number = 0; place = 0; value = t.0 }
+of_replayed (Err r) = said_no r
 
 abbrev pub times_beside : Replayed → Graph → List ℕ → List ℕ → List ℕ
-times_beside (Finish t) g l old = table (total l) g.n ++ drop g.n old
-times_beside (Refused r) g l old = old
+times_beside (Ok t) g l old = table (total l) g.n ++ drop g.n old
+times_beside (Err r) g l old = old
 
 unfoldable pub times_after_of : List ℕ → List ℕ → List ℕ → List ℕ
 times_after_of s l old = times_beside (replay_of s l (length old)) (read_of s).graph l old

@@ -3,7 +3,7 @@
 #![tactic(auto)]
 
 ghost use Rattle.std.specs.Prelude.{◌≡◌, ◌&&◌, ℕ, ◌≤◌, ◌<◌};
-ghost use Rattle.model.specs.Places.{bit, count, padded};
+ghost use Rattle.model.specs.Places.{count, padded};
 ghost use Rattle.graph.specs.declared.Graph.{Graph};
 ghost use Rattle.graph.specs.Model.{as_model};
 ghost use Rattle.vset.specs.Members.{is_in, Members};
@@ -22,12 +22,10 @@ pub fn predecessors(edge: &[u16; 1024], edges: usize, t: &mut [[u64; 2]; 128])
     requires t_value { t.old ≡ empty }
     ensures { Holds t.new (predecessor edge.now edges) }
 {
-    let mut i: usize = 0;
-    while i < edges {
+    for i in 0..edges {
         let u = starts::from(edge[i]);
         let v = starts::to(edge[i]);
         sets::join(t, v, u);
-        i += 1;
     }
 }
 
@@ -37,30 +35,20 @@ pub fn counted(pred: &[[u64; 2]; 128], n: usize) -> [u8; 128]
     ensures { result ≡ padded 128 (ones_among pred.now) n }
 {
     let mut list = [0u8; 128];
-    let mut v: usize = 0;
-    while v < n {
+    for v in 0..n {
         list[v] = vset::size(row(pred, v)) as u8;
-        v += 1;
     }
     list
 }
 
-fn one(on: bool) -> u8
-    ensures { result ≡ bit on }
-{
-    if on { 1 } else { 0 }
-}
-
-// Which of the n vertices have a predecessor: 1 where the row has a one, else 0.
+// Which of the n vertices have a predecessor: 1 where the row has a one, else 0. A number, as the contract says by `padded`, a list of numbers.
 pub fn led(pred: &[[u64; 2]; 128], n: usize) -> [u8; 128]
     requires { n ≤ 128 }
     ensures { result ≡ padded 128 (led_by pred.now) n }
 {
     let mut list = [0u8; 128];
-    let mut v: usize = 0;
-    while v < n {
-        list[v] = one(!vset::is_empty(row(pred, v)));
-        v += 1;
+    for v in 0..n {
+        list[v] = u8::from(!vset::is_empty(row(pred, v)));
     }
     list
 }
@@ -94,12 +82,10 @@ pub fn ancestors(order: &[u8; 128], n: usize, pred: &[[u64; 2]; 128], t: &mut [[
     requires t_value { t.old ≡ empty }
     ensures { (g : Graph) → Lined g order.now n pred.now → Holds t.new (above (as_model g)) }
 {
-    let mut j: usize = 0;
-    while j < n {
+    for j in 0..n {
         let v = order[j] as usize;
         let own = row(pred, v);
         let got = gather(t, own);
         sets::put(t, v, got);
-        j += 1;
     }
 }

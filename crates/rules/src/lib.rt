@@ -87,7 +87,7 @@ fn not_above(file: &[u8], k: usize) -> bool
     (order == 2) & ((before == 2) & (key(file, k) <= key(file, k - 1)))
 }
 
-// Whether record `k` is at fault by number 2, 3, 5, 7, 9 or 10.
+// Whether record `k` is at fault by number 2, 3, 5, 7, 9 or 10. The numbers are the table's own, by which the reader's `judge_from` and every refusal go.
 pub fn record_fails(file: &[u8], number: u32, k: usize, p: Passed, c: Counts) -> bool
     requires { (k < records file.now) × Before file.now k p × Counted file.now c }
     ensures { result ≡ of_record file.now number k }

@@ -9,20 +9,12 @@ fn stage(t: &[u8], of: Names, v: usize, gain: u64) -> bool {
     names::stage(t, of, v) & out::field(gain) & out::field(ticks.0) & out::end()
 }
 
-fn index(v: u8) -> usize {
-    v as usize
-}
-
-fn gain_of(gain: &[u64; 128], v: usize) -> u64 {
-    if v < 128 { gain[v] } else { 0 }
-}
-
 // A line for each vertex of the list, in its order.
 pub fn lines(t: &[u8], of: Names, list: &[u8], gain: &[u64; 128]) -> bool {
     let mut written = true;
-    for i in 0..list.len() {
-        let v = index(list[i]);
-        written = written & stage(t, of, v, gain_of(gain, v));
+    for &v in list {
+        let v = usize::from(v);
+        written &= stage(t, of, v, gain.get(v).copied().unwrap_or(0));
     }
     written
 }

@@ -2,18 +2,14 @@
 use crate::{names, out};
 use board::Names;
 
-fn wide(x: u32) -> u64 {
-    x as u64
-}
-
 fn stage(t: &[u8], of: Names, v: usize, instant: u32) -> bool {
-    names::stage(t, of, v) & out::field(wide(instant)) & out::end()
+    names::stage(t, of, v) & out::field(u64::from(instant)) & out::end()
 }
 
 pub fn lines(t: &[u8], of: Names, finish: u64, instants: &[u32]) -> bool {
     let mut written = out::text(b"finish") & out::field(finish) & out::end();
-    for v in 0..instants.len() {
-        written = written & stage(t, of, v, instants[v]);
+    for (v, &instant) in instants.iter().enumerate() {
+        written &= stage(t, of, v, instant);
     }
     written
 }

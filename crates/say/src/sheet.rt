@@ -1,9 +1,9 @@
 // The sheet, and the path by names.
 use crate::{names, out};
 use board::Names;
-use bounds::Bounded;
-use graph::{Answer, Graph};
-use second::Seconded;
+use bounds::BothBounds;
+use graph::Graph;
+use units::Parts;
 
 fn figure(name: &[u8], n: u64) -> bool {
     out::text(name) & out::field(n) & out::end()
@@ -15,82 +15,60 @@ fn counts(g: Graph) -> bool {
 }
 
 // NEW-B-2, or that there is none.
-fn second_line(found: Seconded) -> bool {
-    let answer = found.answer;
-    match answer {
-        Answer::Accepted => figure(b"second", found.parts.0),
-        Answer::Refused(_) => out::text(b"second none\n"),
+fn second_line(second: Option<Parts>) -> bool {
+    match second {
+        Some(parts) => figure(b"second", parts.0),
+        None => out::text(b"second none\n"),
     }
 }
 
-fn figures(b: Bounded, found: Seconded) -> bool {
+fn figures(b: BothBounds, second: Option<Parts>) -> bool {
     let both = figure(b"old", b.old.0) & figure(b"new", b.new.0);
-    both & second_line(found) & figure(b"ticks", b.ticks.0)
-}
-
-fn wide(v: u8) -> u64 {
-    v as u64
+    both & second_line(second) & figure(b"ticks", b.ticks.0)
 }
 
 // A name and vertices.
 fn row(name: &[u8], list: &[u8]) -> bool {
     let mut written = out::text(name);
-    for i in 0..list.len() {
-        written = written & out::field(wide(list[i]));
+    for &v in list {
+        written &= out::field(u64::from(v));
     }
     written & out::end()
 }
 
 // The sheet: the bounds of a graph, the graph, its path, and its vertices by gain.
-pub fn lines(b: Bounded, found: Seconded, g: Graph, path: &[u8], ranking: &[u8]) -> bool {
-    counts(g) & figures(b, found) & row(b"path", path) & row(b"gains", ranking)
-}
-
-fn longer(most: usize, name: &[u8]) -> usize {
-    let n = name.len();
-    if most < n { n } else { most }
-}
-
-fn index(v: u8) -> usize {
-    v as usize
+pub fn lines(b: BothBounds, second: Option<Parts>, g: Graph, path: &[u8], ranking: &[u8]) -> bool {
+    counts(g) & figures(b, second) & row(b"path", path) & row(b"gains", ranking)
 }
 
 // The type of a stage.
 fn kind_of(g: Graph, v: usize) -> usize {
-    if v < 128 { index(g.kind[v]) } else { 0 }
+    g.kind.get(v).map_or(0, |&k| usize::from(k))
 }
 
 // How wide the names of the path's stages are, and how wide those of their types.
 fn stages_width(t: &[u8], of: Names, path: &[u8]) -> usize {
-    let mut most = 0;
-    for i in 0..path.len() {
-        most = longer(most, names::of_stage(t, of, index(path[i])));
-    }
-    most
+    let widths = path
+        .iter()
+        .map(|&v| names::of_stage(t, of, usize::from(v)).len());
+    widths.max().unwrap_or(0)
 }
 
 fn kinds_width(t: &[u8], of: Names, g: Graph, path: &[u8]) -> usize {
-    let mut most = 0;
-    for i in 0..path.len() {
-        most = longer(most, names::of_kind(t, of, kind_of(g, index(path[i]))));
-    }
-    most
+    let widths = path.iter().map(|&v| names::of_kind(t, of, kind_of(g, usize::from(v))).len());
+    widths.max().unwrap_or(0)
 }
 
 // A name, blanks up to a width, and two more.
 fn padded(name: &[u8], width: usize) -> bool {
     let blanks = b"                                                                  ";
-    let left = if name.len() < width {
-        width - name.len()
-    } else {
-        0
-    };
+    let left = width.saturating_sub(name.len());
     let end = if left < 64 { left + 2 } else { 2 };
     out::text(name) & out::text(texts::part(blanks, 0, end))
 }
 
 fn wcet_of(g: Graph, v: usize) -> u64 {
-    if v < 128 { g.wcet[v] as u64 } else { 0 }
+    g.wcet.get(v).map_or(0, |&ticks| u64::from(ticks))
 }
 
 // A stage of the path: its name, its type and its WCET.
@@ -105,8 +83,8 @@ pub fn table(t: &[u8], of: Names, g: Graph, path: &[u8]) -> bool {
     let first = stages_width(t, of, path);
     let second = kinds_width(t, of, g, path);
     let mut written = out::end();
-    for i in 0..path.len() {
-        written = written & stage(t, of, g, index(path[i]), first, second);
+    for &v in path {
+        written &= stage(t, of, g, usize::from(v), first, second);
     }
     written
 }

@@ -1,4 +1,5 @@
 -- From what the reader says of a file, and from what was found for its graph, to the entries' answers.
+use Rattle.std.specs.Prelude.{Result, Ok, Err}
 use mathlib.Core.Path.{◌≡◌, refl, sym, ap, ◌∙◌}
 use mathlib.Core.List.{List}
 use Prim.Native.Nat.{ℕ, ◌≤◌}
@@ -11,16 +12,16 @@ use Rattle.graph.specs.Model.{as_model, AcceptedGraph}
 use Rattle.graph.specs.Judge.{read_of}
 use Rattle.graph.specs.declared.Graph.{Graph}
 use Rattle.graph.specs.declared.Refusal.{Refusal}
-use Rattle.graph.specs.declared.Answer.{Answer}
-use Rattle.graph.specs.declared.Answer.TheVariants.{Accepted, Refused}
-use Rattle.graph.specs.declared.Taken.{Taken}
+use Rattle.graph.specs.Answer.{Answer}
+use Rattle.graph.specs.Answer.{Accepted, Refused}
+use Rattle.graph.specs.Answer.{Taken}
 use Rattle.tick.specs.declared.Run.{Run}
-use Rattle.tick.specs.declared.Report.TheVariants.{Refused as NoTick}
+use Rattle.tick.specs.Report.{Refused as NoTick}
 use Rattle.tick.specs.Run.{left_of, record_for}
 use Rattle.remains.specs.Remains.{place}
 use Rattle.model.proofs.Turns.{table_ext}
 use Rattle.times.specs.Times.{times_of, judge_times, Fitting}
-use Rattle.schedule.specs.Start.{refused_start_of, started_on, start_of}
+use Rattle.schedule.specs.Start.{Started, started, refused_start_of, started_on, start_of}
 use Rattle.schedule.specs.Tick.{tick_on_of, tick_of}
 use Rattle.schedule.specs.Whole.{play_in, play_on_of, play_of, filled_beside, finishes_of}
 use Rattle.leaps.specs.Finishes.{finish_at, finish_of}
@@ -28,8 +29,8 @@ use Rattle.leaps.specs.Leaps.{Fresh, end_of}
 use Rattle.leaps.specs.declared.Ended.{Ended}
 use Rattle.leaps.proofs.Instants.{left-start, fresh_start}
 use Rattle.times.proofs.Fits.{none_past}
-use Rattle.schedule.specs.declared.Played.{Played}
-use Rattle.schedule.specs.declared.Played.TheVariants.{Finish, Refused as NoPlay}
+use Rattle.schedule.specs.Played.{Played}
+use Rattle.schedule.specs.Played.{Finish, Refused as NoPlay}
 
 module _ (s : List ℕ) (t : Taken) (e : t ≡ read_of s) where
   answered : (a : Answer) → t.answer ≡ a → (read_of s).answer ≡ a
@@ -110,3 +111,10 @@ module _ (s : List ℕ) (ok : (read_of s).answer ≡ Accepted) (e : List ℕ) (f
   pub run_returns : (room : ℕ) → (read_of s).graph.n ≤ room → play_of s e room ≡ Finish (record { 0 = finish_of (as_model (read_of s).graph) (times_of e) })
   unfolding play_of play_on_of play_in
   run_returns room h = rw (ok, fit, le-ltb room (read_of s).graph.n h) refl
+
+-- what `start` gives is told by its answer and the record beside it
+pub started-one : (x y : Result Run Refusal) → started x ≡ started y → x ≡ y
+started-one (Ok r) (Ok q) e = ap (λ (t : Started). Ok t.run) e
+started-one (Ok r) (Err x) e = let z : Accepted ≡ Refused x = ap (λ (t : Started). t.answer) e in cc
+started-one (Err x) (Ok r) e = let z : Refused x ≡ Accepted = ap (λ (t : Started). t.answer) e in cc
+started-one (Err x) (Err y) e = let z : Refused x ≡ Refused y = ap (λ (t : Started). t.answer) e in cc

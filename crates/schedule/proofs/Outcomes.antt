@@ -3,6 +3,7 @@ use mathlib.Core.Path.{◌≡◌, refl, sym, ◌∙◌}
 use Rattle.outcome.specs.OneOutcome.{OneOutcome}
 use Rattle.outcome.specs.Stated.{Stated}
 use Rattle.schedule.specs.Tick.{tick_of}
+use Rattle.schedule.proofs.Answers.{started-one}
 use Rattle.schedule.specs.contracts.start as start
 use Rattle.schedule.proofs.start.Reads as start-reads
 use Rattle.schedule.specs.contracts.tick as tick
@@ -13,7 +14,7 @@ use Rattle.schedule.specs.contracts.run as run
 use Rattle.schedule.proofs.run.Reads as run-reads
 
 pub start-one : OneOutcome start.ended start-reads.Pre start-reads.Post
-start-one κs a r r' ws ws' pre p q = (p ∙ sym q, refl)
+start-one κs a r r' ws ws' pre p q = (started-one r r' (p ∙ sym q), refl)
 
 pub tick-one : OneOutcome tick.ended tick-reads.Pre tick-reads.Post
 tick-one κs a r r' ws ws' pre p q = (p ∙ sym q, refl)

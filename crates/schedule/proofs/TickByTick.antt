@@ -27,7 +27,7 @@ use Rattle.graph.specs.Model.{as_model, AcceptedGraph}
 use Rattle.vset.specs.Members.{is_in}
 use Rattle.tick.specs.declared.Run.{Run}
 use Rattle.tick.specs.declared.Ticked.{Ticked}
-use Rattle.tick.specs.declared.Report.TheVariants.{Moved, Done}
+use Rattle.tick.specs.Report.{Moved, Done}
 use Rattle.tick.specs.Run.{left_of, state_of, record_for, over, ticked_of}
 use Rattle.tick.specs.Suits.{suits, SuitsBefore}
 use Rattle.tick.proofs.Suiting.{suits-sound, suits-complete, nothing-past}

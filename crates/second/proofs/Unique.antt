@@ -1,12 +1,16 @@
 -- What the entry promises leaves one choice only.
-use mathlib.Core.Path.{◌≡◌, sym, ◌∙◌}
+use Rattle.std.specs.Prelude.{Result, Ok, Err}
+use mathlib.Core.Path.{◌≡◌, sym, ap, ◌∙◌}
 use mathlib.Core.List.{List}
 use Prim.Native.Nat.{ℕ}
 use native.Mathlib.Omega.{arith}
 use Rattle.model.specs.Graph.{Graph}
 use Rattle.model.proofs.Visit.{new_b_2_unique}
 use Rattle.second.specs.Answers.{SecondIn, too_many, found, SecondOf, refused, accepted}
-use Rattle.second.specs.declared.Seconded.{Seconded}
+use Rattle.units.specs.declared.Parts.{Parts}
+use Rattle.graph.specs.Answer.{Accepted, Refused}
+use Rattle.graph.specs.declared.Refusal.{Refusal}
+use Rattle.second.specs.Seconded.{Seconded, seconded}
 
 -- the answer and the number are all that there is
 seconded-same : (r r' : Seconded) → r.answer ≡ r'.answer → r.parts.0 ≡ r'.parts.0 → r ≡ r'
@@ -23,3 +27,10 @@ second-of_unique r r' (refused e a z) (refused d b y) = seconded-same r r' (a �
 second-of_unique r r' (refused e a z) (accepted d y) = absurd (let z : ◌≡◌ {A = ℕ} 0 1 = cc in omega arith)
 second-of_unique r r' (accepted e x) (refused d b y) = absurd (let z : ◌≡◌ {A = ℕ} 0 1 = cc in omega arith)
 second-of_unique r r' (accepted e x) (accepted d y) = second_in_unique r r' x y
+
+-- what `second` gives is told by its answer and what stands beside it
+pub seconded-one : (x y : Result Parts Refusal) → seconded x ≡ seconded y → x ≡ y
+seconded-one (Ok p) (Ok q) e = ap Ok (ap (λ (t : Seconded). t.parts) e)
+seconded-one (Ok p) (Err r) e = let q : Accepted ≡ Refused r = ap (λ (t : Seconded). t.answer) e in cc
+seconded-one (Err r) (Ok p) e = let q : Refused r ≡ Accepted = ap (λ (t : Seconded). t.answer) e in cc
+seconded-one (Err r) (Err q) e = let z : Refused r ≡ Refused q = ap (λ (t : Seconded). t.answer) e in cc

@@ -10,8 +10,8 @@ use Rattle.model.specs.PathCount.{path_count}
 use Rattle.graph.specs.Model.{as_model}
 use Rattle.graph.specs.Judge.{read_of}
 use Rattle.graph.specs.declared.Refusal.{Refusal}
-use Rattle.graph.specs.declared.Answer.TheVariants.{Accepted, Refused}
-use Rattle.second.specs.declared.Seconded.{Seconded}
+use Rattle.graph.specs.Answer.{Accepted, Refused}
+use Rattle.second.specs.Seconded.{Seconded}
 
 abbrev pub too_many_paths : Refusal
 too_many_paths = record { number = 17; place = 0 }

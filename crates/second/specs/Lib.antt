@@ -1,3 +1,4 @@
+pub mod Seconded
 pub mod Answers
 -- What only private functions speak of.
 pub mod Shares

@@ -4,5 +4,5 @@
 fn main() {
     let mut buf = [0u8; 9304];
     let n = io::read_full(0, &mut buf);
-    show::sheet(&buf[..n]);
+    let _ = show::sheet(&buf[..n]);
 }

@@ -5,8 +5,7 @@ ghost use Rattle.std.specs.Prelude.{◌≡◌, ◌≤◌};
 ghost use Rattle.graph.specs.Judge.{read_of};
 ghost use Rattle.graph.specs.Model.{AcceptedGraph};
 
-use bounds::Pathed;
-use graph::{Answer, Graph, Refusal};
+use graph::{Graph, Refusal};
 
 fn word(w: &[u8]) {
     io::write_all(1, w);
@@ -43,16 +42,14 @@ fn counts(g: Graph) {
 
 fn vertex(v: u8) {
     word(b" ");
-    number(v as u64);
+    number(u64::from(v));
 }
 
 fn vertices(list: &[u8; 128], n: usize)
     requires { n ≤ 128 }
 {
-    let mut i: usize = 0;
-    while i < n {
-        vertex(list[i]);
-        i += 1;
+    for &v in &list[..n] {
+        vertex(v);
     }
 }
 
@@ -61,10 +58,9 @@ fn path(g: Graph)
     requires { AcceptedGraph g }
 {
     let mut out = [0u8; 128];
-    let found = bounds::path_into(g, &mut out);
-    match found {
-        Pathed::Refused(r) => refusal(r),
-        Pathed::Vertices(n) => {
+    match bounds::path_into(g, &mut out) {
+        Err(r) => refusal(r),
+        Ok(n) => {
             word(b"path");
             vertices(&out, n);
             word(b"\n");
@@ -76,11 +72,9 @@ fn path(g: Graph)
 fn second_line(g: Graph)
     requires { AcceptedGraph g }
 {
-    let found = second::of_graph(g);
-    let answer = found.answer;
-    match answer {
-        Answer::Accepted => line(b"second ", found.parts.0),
-        Answer::Refused(_) => word(b"second none\n"),
+    match second::of_graph(g) {
+        Ok(parts) => line(b"second ", parts.0),
+        Err(_) => word(b"second none\n"),
     }
 }
 
@@ -107,20 +101,20 @@ fn by_gain(g: Graph)
 
 // Seven lines for an accepted file, else one that says why it is refused. The file is read and judged once. What is printed is not in the contract, since no contract can
 // speak of what a call of the operating system wrote; the answer is.
-pub fn sheet(file: &[u8]) -> Answer
+pub fn sheet(file: &[u8]) -> Result<(), Refusal>
     ensures { result ≡ (read_of file.now).answer }
 {
-    let taken = reader::read(file);
-    let answer = taken.answer;
-    match answer {
-        Answer::Refused(r) => refusal(r),
-        Answer::Accepted => {
-            let g = taken.graph;
+    match reader::read(file) {
+        Err(r) => {
+            refusal(r);
+            Err(r)
+        }
+        Ok(g) => {
             counts(g);
             figures(g);
             path(g);
             by_gain(g);
+            Ok(())
         }
     }
-    answer
 }

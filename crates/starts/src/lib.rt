@@ -24,12 +24,10 @@ fn start(edge: &[u16; 1024], edges: usize, u: usize, i: usize) -> usize
     requires { (edges ≤ 1024) × (i ≤ start_in edge.now edges u) }
     ensures { result ≡ start_in edge.now edges u }
 {
-    let mut at = i;
-    while at < edges {
+    for at in i..edges {
         if u <= from(edge[at]) {
             return at;
         }
-        at += 1;
     }
     edges
 }
@@ -39,13 +37,11 @@ pub fn starts(edge: &[u16; 1024], edges: usize) -> [u16; 129]
     requires { edges ≤ 1024 }
     ensures { result ≡ table (start_in edge.now edges) 129 }
 {
-    let mut list = [edges as u16; 129];
-    let mut at: usize = 0;
-    let mut u: usize = 0;
-    while (u < 129) & (at < edges) {
+    let mut list = [0u16; 129];
+    let mut at = 0;
+    for u in 0..129 {
         at = start(edge, edges, u, at);
         list[u] = at as u16;
-        u += 1;
     }
     list
 }

@@ -1,19 +1,18 @@
 -- Along a line of numbers: what the row keeps, and what is still to come.
 use mathlib.Core.Path.{◌≡◌, refl, sym, ap, ◌∙◌}
-use mathlib.Core.Bool.{Bool, true, false, not, ◌&&◌}
+use mathlib.Core.Bool.{Bool, true, false, ◌&&◌}
 use mathlib.Core.List.{List, [], ◌∷◌, ◌++◌, map, append-nil, append_assoc}
 use Prim.Native.Nat.{ℕ, ◌+◌, ◌≤◌}
 use native.Mathlib.Omega.{arith}
 use lib.ListN.{length, drop, length-append}
-use borrow.Author.Tests.{not-false}
-use Rattle.model.proofs.Bools.{clash, not-true, not-is-true}
+use Rattle.model.proofs.Bools.{clash, not-true}
 use Rattle.stg_text.specs.Fields.{value, numerals, numbers}
 use Rattle.stg_scan.specs.Scan.{token_at}
 use Rattle.stg_scan.specs.Rest.{until_feed, has_feed, past_feed, lawful}
 use Rattle.stg.specs.Rows.{Holds, Taken, LineRead, Lined}
 use Rattle.stg.specs.declared.row.Row.{Row}
-use Rattle.stg.specs.declared.row.Line.TheVariants as lines
-use Rattle.stg_scan.specs.declared.Token.TheVariants.{End, Number, Fault}
+use Rattle.std.specs.Prelude.{Some, None}
+use Rattle.stg_scan.specs.declared.Token.TheVariants.{End, Number}
 use Rattle.stg_scan.proofs.Tokens.{Numbered, token_number, token_end, token_fault}
 use Rattle.stg.proofs.Kept.{lawful-front}
 
@@ -32,7 +31,7 @@ along-start s at n r l H =
     record { xs = []; holds = H; few = omega (arith, H.all_many); to = l; all-numbers = refl; all_numerals = refl; ends = refl; past = refl }
 
 module _ (s : List ℕ) (at n i : ℕ) (r : Row) (A : Along s at n i r) where
-  pub along-end : (e : ℕ) → token_at s i ≡ End e → LineRead s at n r e
+  pub along-end : (e : ℕ) → token_at s i ≡ Some (End e) → LineRead s at n r e
   unfolding numbers numerals
   along-end e h =
       let E = token_end s i A.to e h in
@@ -46,7 +45,7 @@ module _ (s : List ℕ) (at n i : ℕ) (r : Row) (A : Along s at n i r) where
         to = E.to;
       }
 
-  pub along-fault : token_at s i ≡ Fault → Lined s at n lines.Fault
+  pub along-fault : token_at s i ≡ None → Lined s at n None
   along-fault h =
       let l : List ℕ = until_feed (drop at s) in
       rw (A.ends, A.all_numerals) (cut (has_feed (drop i s)) (numerals (until_feed (drop i s))) (lawful n (numbers l)) (token_fault s i A.to h))
@@ -56,7 +55,7 @@ module _ (s : List ℕ) (at n i : ℕ) (r : Row) (A : Along s at n i r) where
       cut true false c h = refl
       cut false b c h = refl
 
-  module _ (x e : ℕ) (h : token_at s i ≡ Number x e) where
+  module _ (x e : ℕ) (h : token_at s i ≡ Some (Number x e)) where
     N : Numbered s i x e
     N = token_number s i A.to x e h
 
@@ -73,9 +72,8 @@ module _ (s : List ℕ) (at n i : ℕ) (r : Row) (A : Along s at n i r) where
         A.all-numbers
         ∙ (ap (λ (z : List ℕ). A.xs ++ z) next-numbers ∙ sym (append_assoc A.xs (x ∷ []) (numbers (until_feed (drop e s)))))
 
-    pub along-more : (q : Row) → Taken n (A.xs ++ (x ∷ [])) q → not q.lawful ≡ false → Along s at n e q
-    along-more q T g =
-        let H : Holds n (A.xs ++ (x ∷ [])) q = T.holds (sym T.tells ∙ not-false q.lawful g) in
+    pub along-more : (q : Row) → Taken n (A.xs ++ (x ∷ [])) (Some q) → Along s at n e q
+    along-more q H =
         record {
           xs = A.xs ++ (x ∷ []);
           holds = H;
@@ -87,9 +85,8 @@ module _ (s : List ℕ) (at n i : ℕ) (r : Row) (A : Along s at n i r) where
           past = A.past ∙ N.past;
         }
 
-    pub along_unlawful : (q : Row) → Taken n (A.xs ++ (x ∷ [])) q → not q.lawful ≡ true → Lined s at n lines.Fault
-    along_unlawful q T g =
-        let f : lawful n (A.xs ++ (x ∷ [])) ≡ false = sym T.tells ∙ not-is-true q.lawful g in
+    pub along_unlawful : Taken n (A.xs ++ (x ∷ [])) None → Lined s at n None
+    along_unlawful f =
         let bad : lawful n (numbers (until_feed (drop at s))) ≡ false =
         not-true (lawful n (numbers (until_feed (drop at s)))) (λ t. clash (lawful-front n (A.xs ++ (x ∷ [])) (numbers (until_feed (drop e s))) (rw more_numbers at t)) f) in
         rw bad (cut (has_feed (drop at s)) (numerals (until_feed (drop at s))))

@@ -1,12 +1,13 @@
 -- A line to skip: # comes first after the blanks, and the next line begins past the line feed.
-use mathlib.Core.Path.{◌≡◌, refl, sym, ap, ◌∙◌}
+use mathlib.Core.Path.{◌≡◌, refl, sym, ◌∙◌}
 use mathlib.Core.Bool.{Bool, true, false, ◌&&◌}
 use mathlib.Core.List.{List, [], ◌∷◌}
 use Prim.Native.Nat.{ℕ, ◌+◌, ◌≤◌, ◌<◌}
 use native.Mathlib.Omega.{arith}
-use lib.ListN.{length, get_or, drop, length-drop}
+use lib.ListN.{length, get_or, drop}
 use lib.Dec.{eqb}
 use borrow.Author.Tests.{eq-eqb, ne_eqb, eqb-true}
+use Rattle.std.specs.Prelude.{Option, Some, None}
 use Rattle.model.specs.Places.{pick}
 use Rattle.model.proofs.Bools.{not-is-true}
 use Rattle.stg_text.specs.Fields.{feed, blank}
@@ -18,21 +19,19 @@ use Rattle.stg_scan.proofs.Going.{drop_here, drop-end}
 use Rattle.stg_scan.proofs.Skips.{Skipped, drop-next, after-skip}
 
 -- where the first line feed stands
-record Feeds (s r : List ℕ) (q : ℕ) : Type 0 where
-  none : q ≡ length s → has_feed r ≡ false
-  some : q < length s → (has_feed r ≡ true) × (past_feed r ≡ drop (q + 1) s)
+abbrev Feeds : List ℕ → List ℕ → Option ℕ → Type 0
+Feeds s r None = has_feed r ≡ false
+Feeds s r (Some q) = (has_feed r ≡ true) × (past_feed r ≡ drop (q + 1) s)
 
-feeds : (s r : List ℕ) (i : ℕ) → drop i s ≡ r → i ≤ length s → Feeds s r (feed_at_of i r)
+feeds : (s r : List ℕ) (i : ℕ) → drop i s ≡ r → Feeds s r (feed_at_of i r)
 unfolding feed_at_of has_feed past_feed
-feeds s [] i e l = record { none = λ q. refl; some = λ m. absurd (let z = ap (λ (x : List ℕ). length x) e in omega (arith, length-drop i s)) }
-feeds s (c ∷ r) i e l = go (feed c) refl (feeds s r (i + 1) (drop-next s i c r e))
+feeds s [] i e = refl
+feeds s (c ∷ r) i e = go (feed c) refl (feed_at_of (i + 1) r) (feeds s r (i + 1) (drop-next s i c r e))
   where
-    more : i + 1 ≤ length s
-    more = omega (arith, length-drop i s, ap (λ (x : List ℕ). length x) e)
-
-    go : (b : Bool) → feed c ≡ b → (i + 1 ≤ length s → Feeds s r (feed_at_of (i + 1) r)) → Feeds s (c ∷ r) (pick b i (feed_at_of (i + 1) r))
-    go true h ih = record { none = λ q. absurd (omega (arith, more)); some = λ m. rw h (refl, sym (drop-next s i c r e)) }
-    go false h ih = let k = ih more in record { none = λ q. rw h (k.none q); some = λ m. rw h (k.some m) }
+    go : (b : Bool) → feed c ≡ b → (o : Option ℕ) → Feeds s r o → Feeds s (c ∷ r) (pick b (Some i) o)
+    go true h o k = rw h (refl, sym (drop-next s i c r e))
+    go false h None k = rw h k
+    go false h (Some q) k = rw h k
 
 and-false : (b : Bool) → b && false ≡ false
 and-false true = refl
@@ -68,14 +67,14 @@ module _ (s : List ℕ) (at : ℕ) (l : at ≤ length s) where
     comment_other n = rw (is-comment, ne_eqb (get_or s p 0) 35 n) (and-false (has_feed (drop at s)))
 
     F : Feeds s (drop p s) (feed_at_of p (drop p s))
-    F = feeds s (drop p s) p refl (omega arith)
+    F = feeds s (drop p s) p refl
 
-    pub comment_open : feed_at_of p (drop p s) ≡ length s → has_feed (drop at s) && skipped (until_feed (drop at s)) ≡ false
-    comment_open e = rw (K.same.ends, F.none e) refl
+    pub comment_open : feed_at_of p (drop p s) ≡ None → has_feed (drop at s) && skipped (until_feed (drop at s)) ≡ false
+    comment_open e = rw (K.same.ends, rw e at F) refl
 
-    pub comment-read : get_or s p 0 ≡ 35 → p ≤ feed_at_of p (drop p s) → feed_at_of p (drop p s) < length s → CommentRead s at (feed_at_of p (drop p s) + 1)
-    comment-read e h m =
-        let k = F.some m in
+    pub comment-read : get_or s p 0 ≡ 35 → (q : ℕ) → feed_at_of p (drop p s) ≡ Some q → p ≤ q → q < length s → CommentRead s at (q + 1)
+    comment-read e q f h m =
+        let k = rw f at F in
         record {
           fine = rw (is-comment, eq-eqb (get_or s p 0) 35 e, K.same.ends, k.0) refl;
           past = K.same.past ∙ k.1;

@@ -8,12 +8,13 @@ use lib.ListN.{length, get_or, drop, length-append, get_or-append}
 use lib.Seq.{drop-append-le}
 use lib.Dec.{eqb}
 use borrow.Author.Tests.{le-leb, lt-leb, eq-eqb, eqb-true}
-use Rattle.model.proofs.Bools.{clash, both, left-of, right_of, same_test}
+use Rattle.model.proofs.Bools.{both, left-of, right_of, same_test}
 use Rattle.vset.specs.Members.{is_in, Members}
 use Rattle.vset.specs.declared.Vset.{Vset}
 use Rattle.stg_text.specs.Fields.{all, member, distinct}
 use Rattle.stg_text.specs.Layout.{within}
 use Rattle.stg_scan.specs.Rest.{lawful}
+use Rattle.std.specs.Prelude.{Some, None}
 use Rattle.stg.specs.Rows.{among, Holds, Taken}
 use Rattle.stg.specs.declared.row.Row.{Row}
 use Rattle.stg_text.proofs.Those.{member-append}
@@ -89,54 +90,58 @@ lawful-more n xs x l h =
 
 -- ---- the row
 
-pub no-numbers : (n : ℕ) (v : Vset) → Members v (λ k. false) → Holds n [] (record { many = 0; number = 0; time = 0; count = 0; before = v; lawful = true })
+pub no-numbers : (n : ℕ) (v : Vset) → Members v (λ k. false) → Holds n [] (record { many = 0; number = 0; time = 0; count = 0; before = v })
 unfolding among lawful
 no-numbers n v m = record { all_many = refl; has_number = refl; has_time = refl; has_count = refl; has_before = m; fine = refl }
 
 module _ (n x : ℕ) (r : Row) where
   pub first_taken : (xs : List ℕ) → r.many ≡ 0 → Holds n xs r
-      → Taken n (xs ++ (x ∷ [])) (record { many = 1; number = x; time = r.time; count = r.count; before = r.before; lawful = true })
+      → Taken n (xs ++ (x ∷ [])) (Some (record { many = 1; number = x; time = r.time; count = r.count; before = r.before }))
   unfolding among lawful
   first_taken [] e H =
-      record { tells = refl; holds = λ h. record { all_many = refl; has_number = refl; has_time = H.has_time; has_count = H.has_count; has_before = H.has_before; fine = refl } }
+      record { all_many = refl; has_number = refl; has_time = H.has_time; has_count = H.has_count; has_before = H.has_before; fine = refl }
   first_taken (a ∷ xs) e H = absurd (omega (arith, H.all_many))
 
   pub second-taken : (xs : List ℕ) → r.many ≡ 1 → Holds n xs r
-      → Taken n (xs ++ (x ∷ [])) (record { many = 2; number = r.number; time = x; count = r.count; before = r.before; lawful = true })
+      → Taken n (xs ++ (x ∷ [])) (Some (record { many = 2; number = r.number; time = x; count = r.count; before = r.before }))
   unfolding among lawful
   second-taken [] e H = absurd (omega (arith, H.all_many))
   second-taken (a ∷ []) e H =
-      record { tells = refl; holds = λ h. record { all_many = refl; has_number = H.has_number; has_time = refl; has_count = H.has_count; has_before = H.has_before; fine = refl } }
+      record { all_many = refl; has_number = H.has_number; has_time = refl; has_count = H.has_count; has_before = H.has_before; fine = refl }
   second-taken (a ∷ b ∷ xs) e H = absurd (omega (arith, H.all_many))
 
   pub third_taken : (xs : List ℕ) → r.many ≡ 2 → Holds n xs r
-      → Taken n (xs ++ (x ∷ [])) (record { many = 3; number = r.number; time = r.time; count = x; before = r.before; lawful = true })
+      → Taken n (xs ++ (x ∷ [])) (Some (record { many = 3; number = r.number; time = r.time; count = x; before = r.before }))
   unfolding among lawful
   third_taken [] e H = absurd (omega (arith, H.all_many))
   third_taken (a ∷ []) e H = absurd (omega (arith, H.all_many))
   third_taken (a ∷ b ∷ []) e H =
-      record { tells = refl; holds = λ h. record { all_many = refl; has_number = H.has_number; has_time = H.has_time; has_count = refl; has_before = H.has_before; fine = refl } }
+      record { all_many = refl; has_number = H.has_number; has_time = H.has_time; has_count = refl; has_before = H.has_before; fine = refl }
   third_taken (a ∷ b ∷ c ∷ xs) e H = absurd (omega (arith, H.all_many))
 
-  -- a predecessor above n + 1, whatever the row
-  pub above-taken : (xs : List ℕ) (q : Row) → q.lawful ≡ false → 3 ≤ r.many → n + 1 < x → Holds n xs r → Taken n (xs ++ (x ∷ [])) q
+  -- a predecessor above n + 1
+  pub above-taken : (xs : List ℕ) → 3 ≤ r.many → n + 1 < x → Holds n xs r → Taken n (xs ++ (x ∷ [])) None
   unfolding within
-  above-taken xs q f l a H =
-      let e : lawful n (xs ++ (x ∷ [])) ≡ false = rw (lawful-more n xs x (omega (arith, H.all_many)) H.fine, lt-leb x (n + 1) a) refl in
-      record { tells = f ∙ sym e; holds = λ h. absurd (clash h e) }
+  above-taken xs l a H = rw (lawful-more n xs x (omega (arith, H.all_many)) H.fine, lt-leb x (n + 1) a) refl
 
   -- one within, that is among the others or is not
-  pub within-taken : (xs : List ℕ) (v : Vset) → 3 ≤ r.many → x ≤ n + 1 → Members v (λ k. is_in r.before k || eqb k x) → Holds n xs r
-      → Taken n (xs ++ (x ∷ [])) (record { many = r.many + 1; number = r.number; time = r.time; count = r.count; before = v; lawful = not (is_in r.before x) })
-  unfolding within among
-  within-taken xs v l a m H =
-      let long : 3 ≤ length xs = omega (arith, H.all_many) in
-      let in-before : is_in r.before x ≡ member x (drop 3 xs) = H.has_before.are x in
-      let e : lawful n (xs ++ (x ∷ [])) ≡ not (member x (drop 3 xs)) = rw (lawful-more n xs x long H.fine, le-leb x (n + 1) a) refl in
-      let at : (i : ℕ) → i < 3 → get_or (xs ++ (x ∷ [])) i 0 ≡ get_or xs i 0 = λ i b. get_or-append xs (x ∷ []) 0 i (omega arith) in
-      record {
-        tells = ap not in-before ∙ sym e;
-        holds = λ h. record {
+  module _ (xs : List ℕ) (l : 3 ≤ r.many) (a : x ≤ n + 1) (H : Holds n xs r) where
+    long : 3 ≤ length xs
+    long = omega (arith, H.all_many)
+
+    once : lawful n (xs ++ (x ∷ [])) ≡ not (is_in r.before x)
+    unfolding within among
+    once = rw (lawful-more n xs x long H.fine, le-leb x (n + 1) a) (ap not (sym (H.has_before.are x)))
+
+    pub twice-taken : is_in r.before x ≡ true → Taken n (xs ++ (x ∷ [])) None
+    twice-taken t = once ∙ ap not t
+
+    pub within-taken : is_in r.before x ≡ false → (v : Vset) → Members v (λ k. is_in r.before k || eqb k x)
+        → Taken n (xs ++ (x ∷ [])) (Some (record { many = r.many + 1; number = r.number; time = r.time; count = r.count; before = v }))
+    unfolding among
+    within-taken f v m =
+        let at : (i : ℕ) → i < 3 → get_or (xs ++ (x ∷ [])) i 0 ≡ get_or xs i 0 = λ i b. get_or-append xs (x ∷ []) 0 i (omega (arith, long)) in
+        record {
           all_many = rw (length-append xs (x ∷ []), H.all_many) refl;
           has_number = H.has_number ∙ sym (at 0 (omega arith));
           has_time = H.has_time ∙ sym (at 1 (omega arith));
@@ -146,6 +151,5 @@ module _ (n x : ℕ) (r : Row) where
             high = m.high;
             are = λ k. m.are k ∙ rw (H.has_before.are k, drop-append-le 3 xs (x ∷ []) long, member-more k x (drop 3 xs)) refl;
           };
-          fine = h;
-        };
-      }
+          fine = once ∙ ap not f;
+        }

@@ -22,12 +22,23 @@ use Rattle.stg_text.specs.Says.{time_of, before_of, wcet_said}
 use Rattle.stg_scan.specs.Rest.{until_feed, has_feed, past_feed, rest_at, lawful}
 use Rattle.stg.specs.Rows.{among, counts, LineRead, TaskRead, CommentRead}
 use Rattle.stg.specs.After.{Spread}
-use Rattle.stg.specs.Lines.{Reached, Faulted, precedes, Blank, Kept, TasksRead, read, fault, CommentsRead, skip, stop, LaidOut, beyond}
+use Rattle.stg.specs.Lines.{Reached, Faulted, precedes, Blank, Kept}
 use Rattle.stg.specs.declared.row.Row.{Row}
-use Rattle.stg.specs.declared.lines.Tasks.{Tasks}
-use Rattle.stg.specs.declared.lines.Skipped.{Skipped}
-use Rattle.stg.specs.declared.lines.Layout.{Layout}
+use Rattle.std.specs.Prelude.{Option, Some, None, Result, Ok, Err}
+use Rattle.std.specs.Option.{ok_or}
+use Rattle.std.specs.Result.{IsErrAnd}
+use Rattle.stg.specs.declared.lines.Fault.{Fault}
 use Rattle.stg.proofs.Rests.{line-is, feed-below, faulty-is, begun-line, begun_all}
+
+-- ---- what `?` hands on
+
+pub handed : {A : Type 0} (r : Result A Fault) (f : Fault) → IsErrAnd r (λ e. e ≡ f) → r ≡ Err f
+handed (Err e) f h = ap (λ (x : Fault). Err x) h
+handed (Ok x) f h = absurd h
+
+pub fault-of : {A : Type 0} (o : Option A) (k : ℕ) (f : Fault) → ◌≡◌ {A = Result A Fault} (Err f) (ok_or o (record { line = k })) → (o ≡ None) × (f ≡ record { line = k })
+fault-of None k f e = (refl, cc)
+fault-of (Some x) k f e = absurd (let z : ◌≡◌ {A = ℕ} 0 1 = cc in omega arith)
 
 -- ---- what a line has to be
 
@@ -125,29 +136,10 @@ pub all-inside : (s : List ℕ) → length s ≤ 65536 → fault_at s ≡ lines_
 unfolding outside
 all-inside s l e = rw (le-ltb LIMIT (length s) l, e) (le-ltb (lines_due s) (lines_due s) (omega arith))
 
--- what the two parts tell
-pub tasks_good : (s : List ℕ) (n : ℕ) (t : Tasks) (wcets : List ℕ) (sets : List (List ℕ)) → TasksRead s n t wcets sets → not t.good ≡ false
-    → Reached s (n + 3) t.at × Kept s (n + 2) wcets sets
-tasks_good s n t wcets sets (read g r k) e = (r, k)
-tasks_good s n t wcets sets (fault g f) e = absurd (clash (ap not g) e)
-
-pub tasks-bad : (s : List ℕ) (n : ℕ) (t : Tasks) (wcets : List ℕ) (sets : List (List ℕ)) → TasksRead s n t wcets sets → not t.good ≡ true → Faulted s t.line
-tasks-bad s n t wcets sets (read g r k) e = absurd (clash e (ap not g))
-tasks-bad s n t wcets sets (fault g f) e = f
-
-pub comments_good : (s : List ℕ) (c : Skipped) → CommentsRead s c → not c.good ≡ false → fault_at s ≡ lines_due s
-comments_good s c (skip g r) e = r
-comments_good s c (stop g f) e = absurd (clash (ap not g) e)
-
-pub comments_bad : (s : List ℕ) (c : Skipped) → CommentsRead s c → not c.good ≡ true → Faulted s c.line
-comments_bad s c (skip g r) e = absurd (clash e (ap not g))
-comments_bad s c (stop g f) e = f
-
-pub faulted_laid : (s : List ℕ) (k : ℕ) (r : Layout) (wcets : List ℕ) (sets : List (List ℕ)) → length s ≤ 65536 → Faulted s k → r.good ≡ false → r.line ≡ k
-    → LaidOut s r wcets sets
-faulted_laid s k r wcets sets l F g e =
-    let b = faulted_beyond s k l F in
-    beyond g b.0 (b.1 ∙ sym e) (omega (arith, F.few))
+pub faulted_laid : (s : List ℕ) (f : Fault) → length s ≤ 65536 → Faulted s f.line → (outside s ≡ true) × (fault_of s ≡ f.line) × (f.line ≤ 65536)
+faulted_laid s f l F =
+    let b = faulted_beyond s f.line l F in
+    (b.0, b.1, omega (arith, F.few))
 
 -- ---- tasks
 

@@ -12,7 +12,7 @@
 --   CommentsRead s c     what reading the lines to skip gives: no line is at fault; or a fault
 --   LaidOut s r ..       what reading all lines gives: the text is within the layout, and the tables; or it is not, and the first fault
 --   Gathered s r ..      the same, with the edges as a list
-use Rattle.std.specs.Prelude.{◌≡◌, Bool, true, false, ◌&&◌, List, ℕ, ◌+◌, ◌≤◌, ◌<◌, length, drop, replicate, ltb}
+use Rattle.std.specs.Prelude.{◌≡◌, Bool, true, false, ◌&&◌, List, ℕ, ◌+◌, ◌≤◌, ◌<◌, length, drop, replicate, ltb, Option, Some, None, Result, Ok, Err}
 use Rattle.model.specs.Places.{padded}
 use Rattle.vset.specs.Members.{is_in}
 use Rattle.sets.specs.Sets.{row_of, empty}
@@ -22,11 +22,8 @@ use Rattle.stg_text.specs.Says.{before_of, wcet_said, edges_said}
 use Rattle.stg_scan.specs.Rest.{rest_at}
 use Rattle.stg.specs.Listed.{Listed}
 use Rattle.stg.specs.declared.Found.{Found}
-use Rattle.stg.specs.declared.lines.Tasks.{Tasks}
-use Rattle.stg.specs.declared.lines.Skipped.{Skipped}
-use Rattle.stg.specs.declared.lines.Layout.{Layout}
+use Rattle.stg.specs.declared.lines.Fault.{Fault}
 use Rattle.stg.specs.declared.lines.Count.{Count}
-use Rattle.stg.specs.declared.lines.Count.TheVariants as counts
 
 pub record Reached (s : List ℕ) (k at : ℕ) : Type 0 where
   pub fine : (j : ℕ) → j < k → faulty s j ≡ false
@@ -52,22 +49,22 @@ pub record Kept (s : List ℕ) (v : ℕ) (wcets : List ℕ) (sets : List (List �
   pub long : length sets ≡ 128
   pub after : (u k : ℕ) → u < 128 → k < 128 → is_in (row_of sets u) k ≡ ltb k v && precedes s k u
 
-pub data TasksRead (s : List ℕ) (n : ℕ) (t : Tasks) (wcets : List ℕ) (sets : List (List ℕ)) : Type 0 where
-  read : t.good ≡ true → Reached s (n + 3) t.at → Kept s (n + 2) wcets sets → TasksRead s n t wcets sets
-  fault : t.good ≡ false → Faulted s t.line → TasksRead s n t wcets sets
+abbrev pub TasksRead : List ℕ → ℕ → Result ℕ Fault → List ℕ → List (List ℕ) → Type 0
+TasksRead s n (Ok at) wcets sets = Reached s (n + 3) at × Kept s (n + 2) wcets sets
+TasksRead s n (Err f) wcets sets = Faulted s f.line
 
-pub data CommentsRead (s : List ℕ) (c : Skipped) : Type 0 where
-  skip : c.good ≡ true → fault_at s ≡ lines_due s → CommentsRead s c
-  stop : c.good ≡ false → Faulted s c.line → CommentsRead s c
+abbrev pub CommentsRead : List ℕ → Result (Unit {0}) Fault → Type 0
+CommentsRead s (Ok u) = fault_at s ≡ lines_due s
+CommentsRead s (Err f) = Faulted s f.line
 
-abbrev pub CountRead : List ℕ → Count → Type 0
-CountRead s (counts.Tasks n at) = (tasks s ≡ n) × (n ≤ 126) × Reached s 1 at
-CountRead s counts.Fault = Faulted s 0
+abbrev pub CountRead : List ℕ → Option Count → Type 0
+CountRead s (Some c) = (tasks s ≡ c.tasks) × (c.tasks ≤ 126) × Reached s 1 c.next
+CountRead s None = Faulted s 0
 
-pub data LaidOut (s : List ℕ) (r : Layout) (wcets : List ℕ) (sets : List (List ℕ)) : Type 0 where
-  inside : r.good ≡ true → outside s ≡ false → tasks s ≡ r.n → r.n ≤ 126 → Kept s (r.n + 2) wcets sets → LaidOut s r wcets sets
-  beyond : r.good ≡ false → outside s ≡ true → fault_of s ≡ r.line → r.line ≤ 65536 → LaidOut s r wcets sets
+abbrev pub LaidOut : List ℕ → Result ℕ Fault → List ℕ → List (List ℕ) → Type 0
+LaidOut s (Ok n) wcets sets = (outside s ≡ false) × (tasks s ≡ n) × (n ≤ 126) × Kept s (n + 2) wcets sets
+LaidOut s (Err f) wcets sets = (outside s ≡ true) × (fault_of s ≡ f.line) × (f.line ≤ 65536)
 
-pub data Gathered (s : List ℕ) (r : Found) (wcets list : List ℕ) : Type 0 where
-  all : r.good ≡ true → outside s ≡ false → tasks s ≡ r.n → r.n ≤ 126 → wcets ≡ padded 128 (wcet_said s) (r.n + 2) → Listed (edges_said s) r.edges list → Gathered s r wcets list
-  none : r.good ≡ false → outside s ≡ true → fault_of s ≡ r.line → r.line ≤ 65536 → Gathered s r wcets list
+abbrev pub Gathered : List ℕ → Result Found Fault → List ℕ → List ℕ → Type 0
+Gathered s (Ok r) wcets list = (outside s ≡ false) × (tasks s ≡ r.n) × (r.n ≤ 126) × (wcets ≡ padded 128 (wcet_said s) (r.n + 2)) × Listed (edges_said s) r.edges list
+Gathered s (Err f) wcets list = (outside s ≡ true) × (fault_of s ≡ f.line) × (f.line ≤ 65536)

@@ -3,16 +3,16 @@
 -- What the code keeps of a line of numbers.
 --
 --   Holds n xs r         the row r keeps the numbers xs, the predecessors among them within n + 1 and distinct
---   Taken n xs r         the row says whether they are, and if so keeps them
+--   Taken n xs r         the row keeps them, or there is none where they aren't
 --   LineRead s at n r e  the line from the place on is one of numbers, r keeps them, and the next line begins at e
---   Lined s at n l       what reading a line gives: that, or a fault where the line has no line feed, a field that is no number, or
+--   Lined s at n l       what reading a line gives: that, or None where the line has no line feed, a field that is no number, or
 --                        unlawful predecessors
 --   counts xs            the numbers are one, from 1 to 126
 --   TaskRead s at n v .. the line from the place on is that of task v among n + 2, with this time and these predecessors
---   Tasked s at n v t    what reading such a line gives: that, or a fault
+--   Tasked s at n v t    what reading such a line gives: that, or None
 --   CommentRead s at e   the line from the place on is one to skip, and the next line begins at e
---   Commented s at c     what reading such a line gives: that, or a fault
-use Rattle.std.specs.Prelude.{◌≡◌, Bool, true, false, ◌&&◌, List, ℕ, ◌≤◌, ◌<◌, min, length, get_or, drop, eqb, leb}
+--   Commented s at c     what reading such a line gives: that, or None
+use Rattle.std.specs.Prelude.{◌≡◌, Bool, true, false, ◌&&◌, List, ℕ, ◌≤◌, ◌<◌, min, length, get_or, drop, eqb, leb, Option, Some, None}
 use Rattle.vset.specs.Members.{Members}
 use Rattle.vset.specs.declared.Vset.{Vset}
 use Rattle.stg_text.specs.Fields.{member, numerals, numbers}
@@ -20,11 +20,7 @@ use Rattle.stg_text.specs.Layout.{task_line, skipped}
 use Rattle.stg_scan.specs.Rest.{until_feed, has_feed, past_feed, lawful}
 use Rattle.stg.specs.declared.row.Row.{Row}
 use Rattle.stg.specs.declared.row.Line.{Line}
-use Rattle.stg.specs.declared.row.Line.TheVariants.{Read, Fault}
 use Rattle.stg.specs.declared.task.Task.{Task}
-use Rattle.stg.specs.declared.task.Task.TheVariants as task
-use Rattle.stg.specs.declared.comment.Comment.{Comment}
-use Rattle.stg.specs.declared.comment.Comment.TheVariants as comments
 
 unfoldable pub among : List ℕ → ℕ → Bool
 among xs k = member k (drop 3 xs)
@@ -37,9 +33,9 @@ pub record Holds (n : ℕ) (xs : List ℕ) (r : Row) : Type 0 where
   pub has_before : Members r.before (among xs)
   pub fine : lawful n xs ≡ true
 
-pub record Taken (n : ℕ) (xs : List ℕ) (r : Row) : Type 0 where
-  pub tells : r.lawful ≡ lawful n xs
-  pub holds : lawful n xs ≡ true → Holds n xs r
+abbrev pub Taken : ℕ → List ℕ → Option Row → Type 0
+Taken n xs (Some r) = Holds n xs r
+Taken n xs None = lawful n xs ≡ false
 
 pub record LineRead (s : List ℕ) (at n : ℕ) (r : Row) (e : ℕ) : Type 0 where
   pub ends : has_feed (drop at s) ≡ true
@@ -49,9 +45,9 @@ pub record LineRead (s : List ℕ) (at n : ℕ) (r : Row) (e : ℕ) : Type 0 whe
   pub further : at < e
   pub to : e ≤ length s
 
-abbrev pub Lined : List ℕ → ℕ → ℕ → Line → Type 0
-Lined s at n (Read r e) = LineRead s at n r e
-Lined s at n Fault = has_feed (drop at s) && (numerals (until_feed (drop at s)) && lawful n (numbers (until_feed (drop at s)))) ≡ false
+abbrev pub Lined : List ℕ → ℕ → ℕ → Option Line → Type 0
+Lined s at n (Some l) = LineRead s at n l.row l.next
+Lined s at n None = has_feed (drop at s) && (numerals (until_feed (drop at s)) && lawful n (numbers (until_feed (drop at s)))) ≡ false
 
 unfoldable pub counts : List ℕ → Bool
 counts xs = eqb (length xs) 1 && (leb 1 (get_or xs 0 0) && leb (get_or xs 0 0) 126)
@@ -64,9 +60,9 @@ pub record TaskRead (s : List ℕ) (at n v time : ℕ) (before : Vset) (e : ℕ)
   pub further : at < e
   pub to : e ≤ length s
 
-abbrev pub Tasked : List ℕ → ℕ → ℕ → ℕ → Task → Type 0
-Tasked s at n v (task.Good time before e) = TaskRead s at n v time before e
-Tasked s at n v task.Fault = has_feed (drop at s) && task_line n v (until_feed (drop at s)) ≡ false
+abbrev pub Tasked : List ℕ → ℕ → ℕ → ℕ → Option Task → Type 0
+Tasked s at n v (Some t) = TaskRead s at n v t.time t.before t.next
+Tasked s at n v None = has_feed (drop at s) && task_line n v (until_feed (drop at s)) ≡ false
 
 pub record CommentRead (s : List ℕ) (at e : ℕ) : Type 0 where
   pub fine : has_feed (drop at s) && skipped (until_feed (drop at s)) ≡ true
@@ -74,6 +70,6 @@ pub record CommentRead (s : List ℕ) (at e : ℕ) : Type 0 where
   pub further : at < e
   pub to : e ≤ length s
 
-abbrev pub Commented : List ℕ → ℕ → Comment → Type 0
-Commented s at (comments.Next e) = CommentRead s at e
-Commented s at comments.Fault = has_feed (drop at s) && skipped (until_feed (drop at s)) ≡ false
+abbrev pub Commented : List ℕ → ℕ → Option ℕ → Type 0
+Commented s at (Some e) = CommentRead s at e
+Commented s at None = has_feed (drop at s) && skipped (until_feed (drop at s)) ≡ false

@@ -2,28 +2,18 @@
 ghost use Rattle.std.specs.Prelude.{◌≤◌, length};
 ghost use Rattle.stg.specs.Rows.{Commented};
 
-// The place of the next line.
-#[derive(Clone, Copy)]
-pub enum Comment {
-    Next(usize),
-    Fault,
-}
-
-// The line that begins at `at`: # first, after any blanks and tabs.
-pub(crate) fn comment_at(text: &[u8], at: usize) -> Comment
+// The place of the line after the one that begins at `at`, if that is to be skipped: # first, after any blanks and tabs.
+pub(crate) fn comment_at(text: &[u8], at: usize) -> Option<usize>
     requires { at ≤ length text.now }
     ensures { Commented text.now at result }
 {
     let p = stg_scan::skip(text, at);
     if p == text.len() {
-        return Comment::Fault;
+        return None;
     }
-    if stg_scan::byte(text, p) != 35 {
-        return Comment::Fault;
+    if text[p] != b'#' {
+        return None;
     }
-    let q = stg_scan::feed_at(text, p);
-    if q == text.len() {
-        return Comment::Fault;
-    }
-    Comment::Next(q + 1)
+    let q = stg_scan::feed_at(text, p)?;
+    Some(q + 1)
 }

@@ -30,8 +30,7 @@ fn edges_from(list: &mut [u16; 1025], many: usize, u: usize, after: Vset) -> usi
     let mut m = many;
     while !vset::is_empty(rest) {
         let next = vset::next(rest);
-        let more = push(list, m, (256 * u + next.v) as u16);
-        m = more;
+        m = push(list, m, (256 * u + next.v) as u16);
         rest = next.rest;
     }
     m
@@ -42,13 +41,9 @@ pub(crate) fn all_edges(after: &[[u64; 2]; 128], n: usize, list: &mut [u16; 1025
     requires { (n ≤ 126) × (list.old ≡ replicate 1025 0) }
     ensures { (p : ℕ → Bool) → ((u : ℕ) → u < n + 2 → From p u (row_of after.now u)) → Listed (that p (256 * (n + 2))) result list.new }
 {
-    let mut many = 0usize;
-    let mut u = 0usize;
-    while u < n + 2 {
-        let set = sets::row(after, u);
-        let more = edges_from(list, many, u, set);
-        many = more;
-        u += 1;
+    let mut many = 0;
+    for u in 0..n + 2 {
+        many = edges_from(list, many, u, sets::row(after, u));
     }
     many
 }

@@ -12,64 +12,53 @@ mod lines;
 mod row;
 mod task;
 
+use crate::lines::Fault;
 use graph::Refusal;
-use writer::Wrote;
 
-// How many tasks and edges a text has, beside its lists; or the first line at fault.
+// How many tasks a text has beside the entry and the exit, and how many edges.
 #[derive(Clone, Copy)]
 pub struct Found {
-    pub good: bool,
-    pub line: usize,
     pub n: usize,
     pub edges: usize,
 }
 
 // The times and the edges of a text. Who comes after whom is known here alone, so that its table is gone when the file is made.
-fn listed(text: &[u8], wcets: &mut [u32; 128], list: &mut [u16; 1025]) -> Found
+fn listed(text: &[u8], wcets: &mut [u32; 128], list: &mut [u16; 1025]) -> Result<Found, Fault>
     requires text_len_bound { length text.now ≤ 65536 }
     requires wcets_value { (wcets.old ≡ replicate 128 0) × (list.old ≡ replicate 1025 0) }
     ensures { Gathered text.now result wcets.new list.new }
 {
     let mut after = [[0u64; 2]; 128];
-    let l = lines::lay_out(text, wcets, &mut after);
-    if !l.good {
-        return Found {
-            good: false,
-            line: l.line,
-            n: 0,
-            edges: 0,
-        };
-    }
-    let edges = edges::all_edges(&after, l.n, list);
-    Found {
-        good: true,
-        line: 0,
-        n: l.n,
-        edges,
-    }
+    let n = lines::lay_out(text, wcets, &mut after)?;
+    let edges = edges::all_edges(&after, n, list);
+    Ok(Found { n, edges })
 }
 
 // Reads a text with the lent cores and kinds, and writes the record file that it gives to the front of `out`. The text is read and its
 // lists are made before a lent byte is touched; the rest is the record file's writer's.
-pub fn read(text: &[u8], cores: &[u8], kinds: &[u8], out: &mut [u8]) -> Wrote
+pub fn read(text: &[u8], cores: &[u8], kinds: &[u8], out: &mut [u8]) -> Result<usize, Refusal>
     ensures { (result ≡ read_stg_of text.now cores.now kinds.now (length out.old)) × (out.new ≡ read_room text.now cores.now kinds.now out.old) }
 {
     if 65536 < text.len() {
-        return Wrote::Refused(Refusal {
-            number: 23,
-            place: 0,
-        });
+        return Err(Refusal::whole(23));
     }
     let mut wcets = [0u32; 128];
     let mut list = [0u16; 1025];
-    let l = listed(text, &mut wcets, &mut list);
-    if !l.good {
-        return Wrote::Refused(Refusal {
-            number: 23,
-            place: l.line as u32,
-        });
+    match listed(text, &mut wcets, &mut list) {
+        Err(fault) => {
+            Err(Refusal {
+                number: 23,
+                place: fault.line as u32,
+            })
+        }
+        Ok(found) => {
+            writer::write(
+                cores,
+                kinds,
+                &wcets[..found.n + 2],
+                &list[..found.edges],
+                out,
+            )
+        }
     }
-    let size = l.n + 2;
-    let many = l.edges;
-    writer::write(cores, kinds, &wcets[..size], &list[..many], out)
 }

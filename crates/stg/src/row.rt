@@ -5,8 +5,7 @@ ghost use Rattle.stg.specs.Rows.{Holds, Taken, Lined};
 use stg_scan::Token;
 use vset::Vset;
 
-// The numbers of a line: how many, the first three, and the others as a set. Where one of the others stood twice or is above n + 1,
-// the row is not lawful.
+// The numbers of a line: how many, the first three, and the others as a set.
 #[derive(Clone, Copy)]
 pub struct Row {
     pub many: usize,
@@ -14,115 +13,85 @@ pub struct Row {
     pub time: u64,
     pub count: u64,
     pub before: Vset,
-    pub lawful: bool,
 }
 
 // A line of numbers, and the place of the next line.
 #[derive(Clone, Copy)]
-pub enum Line {
-    Read(Row, usize),
-    Fault,
+pub struct Line {
+    pub row: Row,
+    pub next: usize,
 }
 
 fn start() -> Row
     ensures { (n : ℕ) → Holds n [] result }
 {
-    let before = vset::none();
     Row {
         many: 0,
         number: 0,
         time: 0,
         count: 0,
-        before,
-        lawful: true,
+        before: vset::none(),
     }
 }
 
-// One predecessor more.
-fn with_before(row: Row, x: u64, n: u64) -> Row
+// One predecessor more; none where it is above n + 1, or one of the row already.
+fn with_before(row: Row, x: u64, n: u64) -> Option<Row>
     requires { (n ≤ 126) × (row.many < 65536) × (3 ≤ row.many) }
     ensures { (xs : List ℕ) → Holds n xs row → Taken n (xs ++ (x ∷ [])) result }
 {
     if n + 1 < x {
-        return Row {
-            many: 0,
-            number: 0,
-            time: 0,
-            count: 0,
-            before: Vset { lo: 0, hi: 0 },
-            lawful: false,
-        };
+        return None;
     }
     let u = x as usize;
-    let before = row.before;
-    let again = vset::test(before, u);
-    let more = vset::with(before, u);
-    Row {
-        many: row.many + 1,
-        number: row.number,
-        time: row.time,
-        count: row.count,
-        before: more,
-        lawful: !again,
+    if vset::test(row.before, u) {
+        return None;
     }
+    Some(Row {
+        many: row.many + 1,
+        before: vset::with(row.before, u),
+        ..row
+    })
 }
 
 // One number more.
-fn take(row: Row, x: u64, n: u64) -> Row
+fn take(row: Row, x: u64, n: u64) -> Option<Row>
     requires { (n ≤ 126) × (row.many < 65536) }
     ensures { (xs : List ℕ) → Holds n xs row → Taken n (xs ++ (x ∷ [])) result }
 {
-    let before = row.before;
-    let many = row.many;
-    match many {
-        0 => Row {
+    match row.many {
+        0 => Some(Row {
             many: 1,
             number: x,
-            time: row.time,
-            count: row.count,
-            before,
-            lawful: true,
-        },
-        1 => Row {
+            ..row
+        }),
+        1 => Some(Row {
             many: 2,
-            number: row.number,
             time: x,
-            count: row.count,
-            before,
-            lawful: true,
-        },
-        2 => Row {
+            ..row
+        }),
+        2 => Some(Row {
             many: 3,
-            number: row.number,
-            time: row.time,
             count: x,
-            before,
-            lawful: true,
-        },
+            ..row
+        }),
         _ => with_before(row, x, n),
     }
 }
 
-// The line that begins at `at`.
-pub(crate) fn row_at(text: &[u8], at: usize, n: u64) -> Line
+// The line that begins at `at`, if it has numbers alone, and lawful predecessors.
+pub(crate) fn row_at(text: &[u8], at: usize, n: u64) -> Option<Line>
     requires { (at ≤ length text.now) × (length text.now ≤ 65536) × (n ≤ 126) }
     ensures { Lined text.now at n result }
 {
     let mut i = at;
     let mut row = start();
     loop {
-        let t = stg_scan::next(text, i);
-        match t {
-            Token::End(e) => return Line::Read(row, e),
+        match stg_scan::next(text, i)? {
+            Token::End(next) => return Some(Line { row, next }),
             Token::Number(x, e) => {
-                let more = take(row, x, n);
-                if !more.lawful {
-                    return Line::Fault;
-                }
-                row = more;
+                row = take(row, x, n)?;
                 i = e;
             }
-            Token::Fault => return Line::Fault,
         }
     }
 }

@@ -9,9 +9,10 @@ use vset::Vset;
 
 // A task's time and predecessors, and the place of the next line.
 #[derive(Clone, Copy)]
-pub enum Task {
-    Good(u32, Vset, usize),
-    Fault,
+pub struct Task {
+    pub time: u32,
+    pub before: Vset,
+    pub next: usize,
 }
 
 // Whether the numbers are one, from 1 to 126.
@@ -37,26 +38,21 @@ fn task_fits(row: Row, n: u64, v: u64) -> bool
 fn capped(time: u64) -> u32
     ensures { result ≡ min time 4294967295 }
 {
-    if time < 4294967295 {
-        return time as u32;
-    }
-    4294967295
+    time.min(4294967295) as u32
 }
 
-// The line of task v, which begins at `at`.
-pub(crate) fn task_at(text: &[u8], at: usize, n: u64, v: u64) -> Task
+// Task v, if it is that of the line that begins at `at`.
+pub(crate) fn task_at(text: &[u8], at: usize, n: u64, v: u64) -> Option<Task>
     requires { (at ≤ length text.now) × (length text.now ≤ 65536) × (n ≤ 126) }
     ensures { Tasked text.now at n v result }
 {
-    let line = row::row_at(text, at, n);
-    match line {
-        Line::Read(row, next) => {
-            if task_fits(row, n, v) {
-                let before = row.before;
-                return Task::Good(capped(row.time), before, next);
-            }
-            Task::Fault
-        }
-        Line::Fault => Task::Fault,
+    let Line { row, next } = row::row_at(text, at, n)?;
+    if !task_fits(row, n, v) {
+        return None;
     }
+    Some(Task {
+        time: capped(row.time),
+        before: row.before,
+        next,
+    })
 }

@@ -35,12 +35,10 @@ pub(crate) fn put(out: &mut [u8], at: usize, x: usize) -> usize
     ensures { (result ≡ at + length (decimal x)) × (out.new ≡ sets out.old at (decimal x)) }
 {
     let end = at + width(x);
-    let mut k = end;
     let mut y = x;
-    while at < k {
-        k -= 1;
-        out[k] = (48 + y % 10) as u8;
-        y = y / 10;
+    for k in (at..end).rev() {
+        out[k] = b'0' + (y % 10) as u8;
+        y /= 10;
     }
     end
 }

@@ -1,17 +1,12 @@
 -- No public contract of this crate leaves a choice.
 use mathlib.Core.Path.{refl, sym, ◌∙◌}
 use Rattle.outcome.specs.OneOutcome.{OneOutcome}
-use Rattle.stg_scan.specs.contracts.byte as byte
-use Rattle.stg_scan.proofs.byte.Reads as byte-Reads
 use Rattle.stg_scan.specs.contracts.skip as skip
 use Rattle.stg_scan.proofs.skip.Reads as skip-reads
 use Rattle.stg_scan.specs.contracts.feed_at as feed-at
 use Rattle.stg_scan.proofs.feed_at.Reads as feed-at-reads
 use Rattle.stg_scan.specs.contracts.next as next
 use Rattle.stg_scan.proofs.next.Reads as next-reads
-
-pub byte_one : OneOutcome byte.ended byte-Reads.Pre byte-Reads.Post
-byte_one κs a r r' ws ws' pre p q = (p.0 ∙ sym q.0, refl)
 
 pub skip-one : OneOutcome skip.ended skip-reads.Pre skip-reads.Post
 skip-one κs a r r' ws ws' pre p q = (p.0 ∙ sym q.0, refl)

@@ -12,7 +12,8 @@ use Rattle.model.proofs.Bools.{clash, both, left-of, right_of, or_neither, not-t
 use Rattle.stg_text.specs.Fields.{pieces, all, nonempty, feed, blank, fields, digit, numeral, value_from, value, numerals}
 use Rattle.stg_scan.specs.Scan.{parts, skip_at, scan, token_from, token_at}
 use Rattle.stg_scan.specs.Rest.{until_feed, has_feed, past_feed}
-use Rattle.stg_scan.specs.declared.Token.TheVariants.{End, Number, Fault}
+use Rattle.std.specs.Prelude.{Some, None}
+use Rattle.stg_scan.specs.declared.Token.TheVariants.{End, Number}
 use Rattle.stg_text.proofs.Pieces.{free, all_append}
 use Rattle.stg_scan.proofs.Skips.{Skipped, drop-next, after-skip}
 use Rattle.stg_scan.proofs.Words.{stops, until-word, has_word, past_word, nonempty-first, word-field, pieces-head, all_left, all_right, digits_free-blank, digits_free-feed}
@@ -29,7 +30,7 @@ record Scanned (s r : List ℕ) (i k x y e : ℕ) : Type 0 where
   stopped : stops (drop e s) ≡ true
   at : e ≡ i + length word
 
-scanned : (s r : List ℕ) (i k x y e : ℕ) → drop i s ≡ r → k ≤ 10 → scan i k x r ≡ Number y e → Scanned s r i k x y e
+scanned : (s r : List ℕ) (i k x y e : ℕ) → drop i s ≡ r → k ≤ 10 → scan i k x r ≡ Some (Number y e) → Scanned s r i k x y e
 unfolding scan value_from
 scanned s [] i k x y e d l h =
     let p : x ≡ y = cc in
@@ -38,8 +39,8 @@ scanned s [] i k x y e d l h =
 scanned s (c ∷ r) i k x y e d l h = go (parts c) refl (digit c && ltb k 10) refl h (λ m g. scanned s r (i + 1) (k + 1) (10 * x + (c - 48)) y e (drop-next s i c r d) m g)
   where
     go : (b : Bool) → parts c ≡ b → (g : Bool) → digit c && ltb k 10 ≡ g
-        → pick b (Number x i) (pick g (scan (i + 1) (k + 1) (10 * x + (c - 48)) r) Fault) ≡ Number y e
-        → (k + 1 ≤ 10 → scan (i + 1) (k + 1) (10 * x + (c - 48)) r ≡ Number y e → Scanned s r (i + 1) (k + 1) (10 * x + (c - 48)) y e)
+        → pick b (Some (Number x i)) (pick g (scan (i + 1) (k + 1) (10 * x + (c - 48)) r) None) ≡ Some (Number y e)
+        → (k + 1 ≤ 10 → scan (i + 1) (k + 1) (10 * x + (c - 48)) r ≡ Some (Number y e) → Scanned s r (i + 1) (k + 1) (10 * x + (c - 48)) y e)
         → Scanned s (c ∷ r) i k x y e
     go true b g f h ih =
         let p : x ≡ y = cc in
@@ -58,13 +59,13 @@ scanned s (c ∷ r) i k x y e d l h = go (parts c) refl (digit c && ltb k 10) re
         }
     go false b false f h ih = absurd (let z : ◌≡◌ {A = ℕ} 0 1 = cc in omega arith)
 
-scan-no-end : (r : List ℕ) (i k x e : ℕ) → scan i k x r ≡ End e → ⊥
+scan-no-end : (r : List ℕ) (i k x e : ℕ) → scan i k x r ≡ Some (End e) → ⊥
 unfolding scan
 scan-no-end [] i k x e h = let z : ◌≡◌ {A = ℕ} 0 1 = cc in omega arith
 scan-no-end (c ∷ r) i k x e h = go (parts c) (digit c && ltb k 10) h (scan-no-end r (i + 1) (k + 1) (10 * x + (c - 48)) e)
   where
-    go : (b g : Bool) → pick b (Number x i) (pick g (scan (i + 1) (k + 1) (10 * x + (c - 48)) r) Fault) ≡ End e
-        → (scan (i + 1) (k + 1) (10 * x + (c - 48)) r ≡ End e → ⊥) → ⊥
+    go : (b g : Bool) → pick b (Some (Number x i)) (pick g (scan (i + 1) (k + 1) (10 * x + (c - 48)) r) None) ≡ Some (End e)
+        → (scan (i + 1) (k + 1) (10 * x + (c - 48)) r ≡ Some (End e) → ⊥) → ⊥
     go true g h ih = let z : ◌≡◌ {A = ℕ} 0 1 = cc in omega arith
     go false true h ih = ih h
     go false false h ih = let z : ◌≡◌ {A = ℕ} 0 1 = cc in omega arith
@@ -79,14 +80,14 @@ record Broken (r : List ℕ) (k : ℕ) : Type 0 where
   no_part : parts byte ≡ false
   bad : digit byte && ltb (k + length word) 10 ≡ false
 
-broken : (r : List ℕ) (i k x : ℕ) → scan i k x r ≡ Fault → Broken r k
+broken : (r : List ℕ) (i k x : ℕ) → scan i k x r ≡ None → Broken r k
 unfolding scan
 broken [] i k x h = absurd (let z : ◌≡◌ {A = ℕ} 0 1 = cc in omega arith)
 broken (c ∷ r) i k x h = go (parts c) refl (digit c && ltb k 10) refl h (broken r (i + 1) (k + 1) (10 * x + (c - 48)))
   where
     go : (b : Bool) → parts c ≡ b → (g : Bool) → digit c && ltb k 10 ≡ g
-        → pick b (Number x i) (pick g (scan (i + 1) (k + 1) (10 * x + (c - 48)) r) Fault) ≡ Fault
-        → (scan (i + 1) (k + 1) (10 * x + (c - 48)) r ≡ Fault → Broken r (k + 1)) → Broken (c ∷ r) k
+        → pick b (Some (Number x i)) (pick g (scan (i + 1) (k + 1) (10 * x + (c - 48)) r) None) ≡ None
+        → (scan (i + 1) (k + 1) (10 * x + (c - 48)) r ≡ None → Broken r (k + 1)) → Broken (c ∷ r) k
     go true b g f h ih = absurd (let z : ◌≡◌ {A = ℕ} 0 1 = cc in omega arith)
     go false b false f h ih =
         let e : k + 0 ≡ k = omega arith in
@@ -175,7 +176,7 @@ module _ (s : List ℕ) (at : ℕ) (l : at ≤ length s) where
   K : Skipped s at p
   K = after-skip s (drop at s) at refl l
 
-  number-first : (x e : ℕ) → p < length s → feed (get_or s p 0) ≡ false → scan p 0 0 (drop p s) ≡ Number x e → Numbered s at x e
+  number-first : (x e : ℕ) → p < length s → feed (get_or s p 0) ≡ false → scan p 0 0 (drop p s) ≡ Some (Number x e) → Numbered s at x e
   unfolding numeral value
   number-first x e b f h =
       let w = scanned s (drop p s) p 0 0 x e refl (omega arith) h in
@@ -219,7 +220,7 @@ module _ (s : List ℕ) (at : ℕ) (l : at ≤ length s) where
         to = omega arith;
       }
 
-  fault-first : scan p 0 0 (drop p s) ≡ Fault → has_feed (drop at s) && numerals (until_feed (drop at s)) ≡ false
+  fault-first : scan p 0 0 (drop p s) ≡ None → has_feed (drop at s) && numerals (until_feed (drop at s)) ≡ false
   unfolding numerals
   fault-first h =
       let r = broken_fields (drop p s) (broken (drop p s) p 0 0 h) in
@@ -234,34 +235,34 @@ module _ (s : List ℕ) (at : ℕ) (l : at ≤ length s) where
       let d : drop p s ≡ [] = drop-end s p (omega arith) in
       rw (K.same.ends, d) refl
 
-  pub token_number : (x e : ℕ) → token_at s at ≡ Number x e → Numbered s at x e
+  pub token_number : (x e : ℕ) → token_at s at ≡ Some (Number x e) → Numbered s at x e
   unfolding token_at token_from
   token_number x e h = go (eqb p (length s)) refl (feed (get_or s p 0)) refl h
     where
       go : (a : Bool) → eqb p (length s) ≡ a → (b : Bool) → feed (get_or s p 0) ≡ b
-          → pick a Fault (pick b (End (p + 1)) (scan p 0 0 (drop p s))) ≡ Number x e → Numbered s at x e
+          → pick a None (pick b (Some (End (p + 1))) (scan p 0 0 (drop p s))) ≡ Some (Number x e) → Numbered s at x e
       go true i b j h = absurd (let z : ◌≡◌ {A = ℕ} 0 1 = cc in omega arith)
       go false i true j h = absurd (let z : ◌≡◌ {A = ℕ} 0 1 = cc in omega arith)
       go false i false j h = number-first x e (let d = eqb-false p (length s) i in omega (arith, K.to)) j h
 
-  pub token_end : (e : ℕ) → token_at s at ≡ End e → Ended s at e
+  pub token_end : (e : ℕ) → token_at s at ≡ Some (End e) → Ended s at e
   unfolding token_at token_from
   token_end e h = go (eqb p (length s)) refl (feed (get_or s p 0)) refl h
     where
       go : (a : Bool) → eqb p (length s) ≡ a → (b : Bool) → feed (get_or s p 0) ≡ b
-          → pick a Fault (pick b (End (p + 1)) (scan p 0 0 (drop p s))) ≡ End e → Ended s at e
+          → pick a None (pick b (Some (End (p + 1))) (scan p 0 0 (drop p s))) ≡ Some (End e) → Ended s at e
       go true i b j h = absurd (let z : ◌≡◌ {A = ℕ} 0 1 = cc in omega arith)
       go false i true j h =
           let q : p + 1 ≡ e = cc in
           rw (← q) (feed-first (let d = eqb-false p (length s) i in omega (arith, K.to)) j)
       go false i false j h = absurd (scan-no-end (drop p s) p 0 0 e h)
 
-  pub token_fault : token_at s at ≡ Fault → has_feed (drop at s) && numerals (until_feed (drop at s)) ≡ false
+  pub token_fault : token_at s at ≡ None → has_feed (drop at s) && numerals (until_feed (drop at s)) ≡ false
   unfolding token_at token_from
   token_fault h = go (eqb p (length s)) refl (feed (get_or s p 0)) refl h
     where
       go : (a : Bool) → eqb p (length s) ≡ a → (b : Bool) → feed (get_or s p 0) ≡ b
-          → pick a Fault (pick b (End (p + 1)) (scan p 0 0 (drop p s))) ≡ Fault → has_feed (drop at s) && numerals (until_feed (drop at s)) ≡ false
+          → pick a None (pick b (Some (End (p + 1))) (scan p 0 0 (drop p s))) ≡ None → has_feed (drop at s) && numerals (until_feed (drop at s)) ≡ false
       go true i b j h = nothing_left (eqb-true p (length s) i)
       go false i true j h = absurd (let z : ◌≡◌ {A = ℕ} 0 1 = cc in omega arith)
       go false i false j h = fault-first h

@@ -9,11 +9,11 @@ use borrow.Author.Tests.{lt-ltb}
 use Rattle.model.specs.Places.{pick}
 use Rattle.graph.specs.Model.{as_model}
 use Rattle.graph.specs.Judge.{read_of}
-use Rattle.graph.specs.declared.Answer.TheVariants as answers
-use Rattle.graph.specs.declared.Taken.{Taken}
+use Rattle.graph.specs.Answer as answers
+use Rattle.graph.specs.Answer.{Taken}
 use Rattle.writer.specs.Lists.{Lists, graph_from}
 use Rattle.writer.specs.Write.{file_of, wrote_by}
-use Rattle.writer.specs.declared.Wrote.TheVariants.{Bytes, Refused}
+use Rattle.writer.specs.Wrote.{Bytes, Refused}
 use Rattle.writer.proofs.Joined.{joined_ext}
 use Rattle.stg_text.specs.Layout.{tasks}
 use Rattle.stg_text.specs.Says.{says}

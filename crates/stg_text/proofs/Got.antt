@@ -15,13 +15,13 @@ use Rattle.graph.specs.File.{records, byte_at, word_at, many, ordinal, words, gr
 use Rattle.graph.specs.Rules.{holds, places, rule7}
 use Rattle.graph.specs.Model.{as_model}
 use Rattle.graph.specs.Judge.{judge_from, read_of}
-use Rattle.graph.specs.declared.Answer.TheVariants as answers
-use Rattle.graph.specs.declared.Taken.{Taken}
+use Rattle.graph.specs.Answer as answers
+use Rattle.graph.specs.Answer.{Taken}
 use Rattle.graph.proofs.Judging.{none-holds}
 use Rattle.writer.specs.Lists.{Lists, lists_in, filled, graph_from}
 use Rattle.writer.specs.Write.{file_of, wrote_of}
 use Rattle.writer.specs.Image.{part}
-use Rattle.writer.specs.declared.Wrote.TheVariants.{Bytes}
+use Rattle.writer.specs.Wrote.{Bytes}
 use Rattle.writer.proofs.Part.{parted, part-types, part-vertices, part-records, file-part}
 use Rattle.writer.proofs.FromLists.{graph_back}
 use Rattle.writer.proofs.RoundTrip.{written_read}

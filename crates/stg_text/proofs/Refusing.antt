@@ -13,10 +13,10 @@ use Rattle.model.proofs.Bools.{or_cases}
 use Rattle.model.proofs.Places.{first_below, first-here}
 use Rattle.model.proofs.Tables.{table-length}
 use Rattle.graph.specs.Judge.{read_of}
-use Rattle.graph.specs.declared.Answer.TheVariants as answers
+use Rattle.graph.specs.Answer as answers
 use Rattle.graph.specs.declared.Refusal.{Refusal}
 use Rattle.writer.specs.Write.{wrote_by, wrote_of}
-use Rattle.writer.specs.declared.Wrote.TheVariants.{Refused}
+use Rattle.writer.specs.Wrote.{Refused}
 use Rattle.stg_text.specs.Layout.{tasks, faulty, lines_due, fault_at, LIMIT, outside, fault_of}
 use Rattle.stg_text.specs.Says.{wcet_said, wcets_of, says}
 use Rattle.stg_text.specs.Canonical.{text_of}

@@ -1,4 +1,5 @@
 -- The round trips: what is written reads back as the same file, and a canonical text that is read and written gives the same bytes.
+use Rattle.std.specs.Prelude.{Ok, Err}
 use mathlib.Core.Path.{◌≡◌, refl, sym, ap, ◌∙◌}
 use mathlib.Core.Bool.{Bool, true, false, ◌&&◌}
 use mathlib.Core.List.{List, ◌++◌}
@@ -15,13 +16,13 @@ use Rattle.model.proofs.Tables.{table-length, table_at, padded-length}
 use Rattle.graph.specs.File.{graph_of}
 use Rattle.graph.specs.Model.{AcceptedGraph, as_model, from}
 use Rattle.graph.specs.Judge.{judge_from, read_of}
-use Rattle.graph.specs.declared.Answer.{Answer}
-use Rattle.graph.specs.declared.Answer.TheVariants as answers
+use Rattle.graph.specs.Answer.{Answer}
+use Rattle.graph.specs.Answer as answers
 use Rattle.graph.specs.declared.Graph.{Graph}
 use Rattle.graph.proofs.Accepted.{taken}
 use Rattle.writer.specs.Lists.{Lists, lists_in}
 use Rattle.writer.specs.Write.{wrote_of, room_after}
-use Rattle.writer.specs.declared.Wrote.TheVariants.{Bytes}
+use Rattle.writer.specs.Wrote.{Bytes}
 use Rattle.writer.proofs.RoundTrip.{read-written}
 use Rattle.stg_text.specs.Fields.{member}
 use Rattle.stg_text.specs.Layout.{outside}
@@ -157,10 +158,10 @@ written s room size h = go (read_of s).answer refl (other_ends_of (read_of s).gr
   where
     go : (y : Answer) → (read_of s).answer ≡ y → (x : Bool) → other_ends_of (read_of s).graph ≡ x → (z : Bool) → ltb room (length (text_of (read_of s).graph)) ≡ z
         → write_by y (read_of s).graph room ≡ Bytes size → Written s size
-    go (answers.Refused r) q x p z l e = absurd (let c : ◌≡◌ {A = ℕ} 0 1 = cc in omega arith)
-    go answers.Accepted q true p z l e = absurd (let t = rw p at e in let c : ◌≡◌ {A = ℕ} 0 1 = cc in omega arith)
-    go answers.Accepted q false p true l e = absurd (let t = rw (p, l) at e in let c : ◌≡◌ {A = ℕ} 0 1 = cc in omega arith)
-    go answers.Accepted q false p false l e = record { judged = q; no_other = p; whole = let t = rw (p, l) at e in cc }
+    go (Err r) q x p z l e = absurd (let c : ◌≡◌ {A = ℕ} 0 1 = cc in omega arith)
+    go (Ok _) q true p z l e = absurd (let t = rw p at e in let c : ◌≡◌ {A = ℕ} 0 1 = cc in omega arith)
+    go (Ok _) q false p true l e = absurd (let t = rw (p, l) at e in let c : ◌≡◌ {A = ℕ} 0 1 = cc in omega arith)
+    go (Ok _) q false p false l e = record { judged = q; no_other = p; whole = let t = rw (p, l) at e in cc }
 
 room-written : (s out : List ℕ) (size : ℕ) → write_stg_of s (length out) ≡ Bytes size → write_room s out ≡ text_of (read_of s).graph ++ drop size out
 unfolding write_room

@@ -10,8 +10,8 @@ use Rattle.graph.specs.Model.{from, to, joins, as_model}
 use Rattle.graph.specs.Rules.{rule1, rule2, rule3, rule4, rule5, rule6, rule7, rule8, rule9, rule10, rule11, holds, places}
 use Rattle.graph.specs.Judge.{place_of, applies, lowest, judge_from, read_of}
 use Rattle.writer.specs.Write.{joined, type_of, vertex_of, edge_of, file_of, wrote_of}
-use Rattle.writer.specs.declared.Wrote.{Wrote}
-use Rattle.writer.specs.declared.Wrote.TheVariants.{Bytes, Refused}
+use Rattle.writer.specs.Wrote.{Wrote}
+use Rattle.writer.specs.Wrote.{Bytes, Refused}
 use Rattle.stg_text.specs.Fields.{pieces, feed, blank, fields, digit, numeral, value_from, value, numerals, numbers}
 use Rattle.stg_text.specs.Layout.{line_at, ended, begun, tasks, count_line, within, task_line, skipped, fits, faulty, lines_due, fault_at, outside, fault_of}
 use Rattle.stg_text.specs.Says.{time_of, before_of, edge_said, wcet_said, wcets_of, edges_said, says}

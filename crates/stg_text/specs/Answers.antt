@@ -7,17 +7,18 @@
 --                                   as sink, or either with a time above 0
 --   write_stg_of s room               the record file's refusals; then 24 where the graph has other ends; then 15; else the text's length
 --   write_room s out                 the lent room after writing, where it held out
+use Rattle.std.specs.Prelude.{Ok, Err}
 use Rattle.std.specs.Prelude.{Bool, not, ◌&&◌, ◌||◌, List, ℕ, ◌-◌, length, eqb, ltb}
 use Rattle.model.specs.Places.{pick, any}
 use Rattle.model.specs.Graph.{source, sink}
 use Rattle.graph.specs.Model.{as_model}
 use Rattle.graph.specs.Judge.{read_of}
-use Rattle.graph.specs.declared.Answer.{Answer}
-use Rattle.graph.specs.declared.Answer.TheVariants as answers
+use Rattle.graph.specs.Answer.{Answer}
+use Rattle.graph.specs.Answer as answers
 use Rattle.graph.specs.declared.Graph.{Graph}
 use Rattle.writer.specs.Write.{file_of, wrote_by, wrote_of, room_by}
-use Rattle.writer.specs.declared.Wrote.{Wrote}
-use Rattle.writer.specs.declared.Wrote.TheVariants.{Refused}
+use Rattle.writer.specs.Wrote.{Wrote}
+use Rattle.writer.specs.Wrote.{Refused}
 use Rattle.stg_text.specs.Layout.{outside, fault_of}
 use Rattle.stg_text.specs.Says.{says}
 use Rattle.stg_text.specs.Canonical.{text_of}
@@ -46,8 +47,8 @@ unfoldable pub write_of : Graph → ℕ → Wrote
 write_of h room = pick (other_ends_of h) (Refused (record { number = 24; place = 0 })) (wrote_by answers.Accepted (length (text_of h)) room)
 
 abbrev pub write_by : Answer → Graph → ℕ → Wrote
-write_by answers.Accepted h room = write_of h room
-write_by (answers.Refused r) h room = Refused r
+write_by (Ok _) h room = write_of h room
+write_by (Err r) h room = Refused r
 
 unfoldable pub write_stg_of : List ℕ → ℕ → Wrote
 write_stg_of s room = write_by (read_of s).answer (read_of s).graph room

@@ -5,7 +5,7 @@
 use Rattle.std.specs.Prelude.{◌≡◌, List, ℕ, ◌+◌, ◌<◌}
 use Rattle.graph.specs.Judge.{read_of}
 use Rattle.graph.specs.Model.{as_model}
-use Rattle.graph.specs.declared.Answer.TheVariants.{Accepted}
+use Rattle.graph.specs.Answer.{Accepted}
 use Rattle.writer.specs.Lists.{lists_in}
 use Rattle.stg_text.specs.Fields.{member}
 use Rattle.stg_text.specs.Layout.{tasks}

@@ -8,10 +8,10 @@
 use Rattle.std.specs.Prelude.{◌≡◌, Bool, List, ◌++◌, ℕ, ◌+◌, ◌^◌, ◌≤◌, ◌<◌, length, take, drop}
 use Rattle.model.specs.Places.{pick}
 use Rattle.graph.specs.Judge.{read_of}
-use Rattle.graph.specs.declared.Answer.TheVariants.{Accepted}
+use Rattle.graph.specs.Answer.{Accepted}
 use Rattle.writer.specs.Lists.{lists_in}
 use Rattle.writer.specs.Write.{wrote_by}
-use Rattle.writer.specs.declared.Wrote.TheVariants.{Bytes, Refused}
+use Rattle.writer.specs.Wrote.{Bytes, Refused}
 use Rattle.stg_text.specs.Canonical.{lay_out_of, text_of}
 use Rattle.stg_text.specs.Answers.{read_stg_of, read_room, other_ends_of, write_stg_of, write_room}
 

@@ -1,9 +1,8 @@
--- The predecessors, gathered edge by edge.
-use mathlib.Core.Path.{◌≡◌, refl, sym, ap, ◌∙◌}
-use mathlib.Core.Bool.{Bool, true, false, ◌&&◌, ◌||◌}
+-- The predecessors: who is one, gathered edge by edge, and whose they are, as the reader laid it.
+use mathlib.Core.Path.{◌≡◌, refl, sym, ◌∙◌}
+use mathlib.Core.Bool.{false, ◌||◌}
 use mathlib.Core.List.{List}
-use Prim.Native.Nat.{ℕ, ◌+◌, ◌<◌}
-use native.Mathlib.Omega.{arith}
+use Prim.Native.Nat.{ℕ, ◌+◌}
 use native.Mathlib.Decide.{ℕ_discrete}
 use lib.Dec.{eqb}
 use borrow.Author.Tests.{eq-eqb, ne_eqb}
@@ -11,10 +10,11 @@ use Rattle.model.specs.Places.{any}
 use Rattle.model.proofs.Places.{any-more}
 use Rattle.vset.specs.Members.{is_in, Members}
 use Rattle.vset.specs.declared.Vset.{Vset}
-use Rattle.sets.specs.Sets.{empty, joined}
-use Rattle.sets.proofs.Tables.{empty-table, empty_in}
-use Rattle.sets.proofs.Joining.{joined-long, joined_in}
-use Rattle.starts.specs.Starts.{comes_from, leads_to}
+use Rattle.vset.proofs.Gather.{members_ext}
+use Rattle.starts.specs.Starts.{comes_from}
+use Rattle.rows.specs.Rows.{predecessor}
+use Rattle.reader.specs.Laid.{Usable}
+use Rattle.reader.specs.declared.Laid.{Laid}
 use Rattle.stg_writer.specs.Before.{joins_in, Gathered}
 
 turned : (a b : ℕ) → eqb a b ≡ eqb b a
@@ -25,26 +25,17 @@ turned a b = go (ℕ_discrete a b)
     go (no d) = ne_eqb a b d ∙ sym (ne_eqb b a (λ e. d (sym e)))
 
 module _ (l : List ℕ) where
-  pub gathered_none : (s : Vset) (t : List (List ℕ)) → Members s (λ k. false) → t ≡ empty → Gathered l 0 s t
+  pub leading_none : {s : Vset} → Members s (λ k. false) → Members s (λ a. any (λ i. eqb (comes_from l i) a) 0)
   unfolding any
-  gathered_none s t m e = record {
-    long = rw e empty-table.size;
-    rows = λ u v h k. rw e (empty_in v u k);
-    some = m.are;
-  }
+  leading_none m = m
 
-  pub gathered-more : (m : ℕ) (s s' : Vset) (t : List (List ℕ)) (u v : ℕ) → Gathered l m s t → u ≡ comes_from l m → v ≡ leads_to l m → v < 128 → Members s' (λ k. is_in s k || eqb k u)
-      → Gathered l (m + 1) s' (joined t v u)
-  unfolding joins_in
-  gathered-more m s s' t u v G p q h M = record {
-    long = joined-long t v u ∙ G.long;
-    rows = λ a b k j. joined_in t v u (omega (arith, G.long)) b a k
-        ∙ (rw (G.rows a b k j, any-more (joins_in l a b) m, turned b v, turned a u, p, q) (ap (λ (x : Bool). any (joins_in l a b) m || x) (swapped (eqb (leads_to l m) b) (eqb (comes_from l m) a))));
-    some = λ a. M.are a ∙ rw (G.some a, any-more (λ i. eqb (comes_from l i) a) m, turned a u, p) refl;
-  }
-    where
-      swapped : (x y : Bool) → x && y ≡ y && x
-      swapped true true = refl
-      swapped true false = refl
-      swapped false true = refl
-      swapped false false = refl
+  pub leading-more : (m : ℕ) (s s' : Vset) (u : ℕ) → Members s (λ a. any (λ i. eqb (comes_from l i) a) m) → u ≡ comes_from l m → Members s' (λ k. is_in s k || eqb k u)
+      → Members s' (λ a. any (λ i. eqb (comes_from l i) a) (m + 1))
+  leading-more m s s' u G p M =
+      members_ext s' (λ k. is_in s k || eqb k u) (λ a. any (λ i. eqb (comes_from l i) a) (m + 1)) M
+      (λ a. rw (G.are a, any-more (λ i. eqb (comes_from l i) a) m, turned a u, p) refl)
+
+pub gathered : {lent : Laid} {s : Vset} → Usable lent → Members s (λ u. any (λ i. eqb (comes_from lent.graph.edge i) u) lent.graph.edges)
+    → Gathered lent.graph.edge lent.graph.edges s lent.pred
+unfolding joins_in predecessor
+gathered U M = record { long = U.rows.table.size; rows = λ u v h k. U.rows.row v u k; some = M.are }

@@ -10,16 +10,16 @@ use lib.Dec.{ltb}
 use borrow.Author.Tests.{lt-ltb, le-ltb, ltb-false}
 use Rattle.model.proofs.Bools.{or_neither}
 use Rattle.graph.specs.Model.{AcceptedGraph}
-use Rattle.graph.specs.declared.Answer.TheVariants as answers
+use Rattle.graph.specs.Answer as answers
 use Rattle.graph.specs.declared.Graph.{Graph}
 use Rattle.graph.specs.declared.Refusal.{Refusal}
-use Rattle.reader.specs.Laid.{graph_in, TakenInto}
-use Rattle.reader.specs.declared.Header.{Header}
+use Rattle.reader.specs.Laid.{TakenInto}
+use Rattle.reader.specs.declared.Laid.{Laid}
 use Rattle.reader.proofs.Laying.{handed_over, handed_back}
 use Rattle.vset.specs.declared.Vset.{Vset}
 use Rattle.writer.specs.Write.{room_by}
-use Rattle.writer.specs.declared.Wrote.{Wrote}
-use Rattle.writer.specs.declared.Wrote.TheVariants.{Bytes, Refused}
+use Rattle.writer.specs.Wrote.{Wrote}
+use Rattle.writer.specs.Wrote.{Bytes, Refused}
 use Rattle.stg_text.specs.Canonical.{text_of}
 use Rattle.stg_text.specs.Answers.{write_of, write_stg_of, write_room}
 use Rattle.stg_writer.specs.Before.{Gathered, ends_other, text_in}
@@ -54,17 +54,14 @@ module _ (h : Graph) (G : AcceptedGraph h) (s : Vset) (t : List (List ℕ)) (L :
 
 -- ---- by what the reader says
 
-module _ (s : List ℕ) (h : Header) (c k w e st o : List ℕ) (T : TakenInto s h c k w e st o) (out : List ℕ) where
-  pub record Given (r : Wrote) (room : List ℕ) : Type 0 where
-    pub answer : r ≡ write_stg_of s (length out)
-    pub left : room ≡ write_room s out
-
-  pub of-accepted : h.answer ≡ answers.Accepted → (r : Wrote) (room : List ℕ) → r ≡ write_of (graph_in h c k w e) (length out) → room ≡ room_by r (text_of (graph_in h c k w e)) out → Given r room
+module _ {s : List ℕ} (out : List ℕ) {l : Laid} where
+  pub of-accepted : {r : Wrote} {room : List ℕ} → TakenInto s answers.Accepted l → r ≡ write_of l.graph (length out) → room ≡ room_by r (text_of l.graph) out
+      → (r ≡ write_stg_of s (length out)) × (room ≡ write_room s out)
   unfolding write_stg_of write_room
-  of-accepted a r room p q =
-      let g = handed_over s h c k w e st o T a in
-      record { answer = rw (← g) p; left = rw (← g) (q ∙ ap (λ (x : Wrote). room_by x (text_of (graph_in h c k w e)) out) p) }
+  of-accepted T p q =
+      let g = handed_over s l T in
+      (rw (← g) p, rw (← g) (q ∙ ap (λ (x : Wrote). room_by x (text_of l.graph) out) p))
 
-  pub of-refused : (x : Refusal) → h.answer ≡ answers.Refused x → Given (Refused x) out
+  pub of-refused : {x : Refusal} → TakenInto s (answers.Refused x) l → (Refused x ≡ write_stg_of s (length out)) × (out ≡ write_room s out)
   unfolding write_stg_of write_room
-  of-refused x a = let g = handed_back s h c k w e st o T a in record { answer = rw (← g) refl; left = rw (← g) refl }
+  of-refused T = let g = handed_back s T in (rw (← g) refl, rw (← g) refl)

@@ -20,12 +20,10 @@ fn any_other(n: usize, before: &[[u64; 2]; 128], some: Vset) -> bool
     requires { n ≤ 128 }
     ensures { result ≡ any (other_end_of n before.now some) n }
 {
-    let mut v = 0usize;
-    while v < n {
+    for v in 0..n {
         if other_end(n, before, some, v) {
             return true;
         }
-        v += 1;
     }
     false
 }

@@ -8,12 +8,10 @@ pub(crate) fn text_length(n: usize, before: &[[u64; 2]; 128], wcet: &[u32; 128])
     ensures { result ≡ length (text_in n before.now wcet.now) }
 {
     let mut size = stg_line::count_length(n - 2);
-    let mut v = 0usize;
-    while v < n {
+    for v in 0..n {
         let set = sets::row(before, v);
         let more = stg_line::task_length(v, wcet[v] as usize, set);
         size += more;
-        v += 1;
     }
     size
 }
@@ -23,11 +21,9 @@ pub(crate) fn put_text(out: &mut [u8], n: usize, before: &[[u64; 2]; 128], wcet:
     ensures { out.new ≡ sets out.old 0 (text_in n before.now wcet.now) }
 {
     let mut i = stg_line::put_count(out, n - 2);
-    let mut v = 0usize;
-    while v < n {
+    for v in 0..n {
         let set = sets::row(before, v);
         let next = stg_line::put_task(out, i, v, wcet[v] as usize, set);
         i = next;
-        v += 1;
     }
 }

@@ -1,18 +1,18 @@
 -- Why one pass along the order, from its last vertex to its first, finds the sums that start at the marked vertices. The successors of a vertex
 -- stand at later places, where the sums are done, and no later store changes them.
 use mathlib.Core.Path.{◌≡◌, sym, ap, ◌∙◌}
+use mathlib.Core.Bool.{Bool, true, false}
 use mathlib.Core.List.{List}
 use mathlib.Core.Logic.{◌⊎◌, inl, inr}
 use Prim.Native.Nat.{ℕ, ◌+◌, ◌≤◌, ◌<◌}
 use native.Mathlib.Omega.{arith}
 use native.Mathlib.Decide.{ℕ_discrete}
-use lib.Dec.{eqb}
 use lib.ListN.{get_or, length, set, length-set}
 use lib.Seq.{get_or-set_same, get_or-set_other}
-use borrow.Author.Tests.{eq-eqb, ne_eqb}
 use Rattle.model.specs.Places.{pick}
 use Rattle.model.specs.Graph.{Edge}
 use Rattle.model.specs.Summary.{StartingAt}
+use Rattle.model.proofs.Bools.{cases}
 use Rattle.model.proofs.Sums.{largest-most, largest-is}
 use Rattle.model.proofs.Summaries.{starting-step}
 use Rattle.graph.specs.Model.{as_model}
@@ -22,11 +22,11 @@ use Rattle.summary.specs.Row.{many, nth, most_over}
 use Rattle.summary.specs.Tables.{Starts, StartsBut}
 use Rattle.summary.proofs.Along.{well_formed, few, vertex, place, place-below, place_at, vertex-at, nth-joins, nth_of, rises, starting-small}
 
-module _ {g : Graph} {e st o : List ℕ} {n : ℕ} {w : List ℕ} (T : Weighed g e st o n w) (t : List ℕ) where
+module _ {g : Graph} {e st o : List ℕ} {n : ℕ} {w : List ℕ} (T : Weighed g e st o n w) (t : List Bool) where
   pub record Backward (s : List ℕ) (j : ℕ) : Type 0 where
     pub size : length s ≡ 128
     pub done : (v : ℕ) → v < g.n → j ≤ place T v → StartingAt (as_model g) (weigh w) v (get_or s v 0)
-    pub kept : (v : ℕ) → v < g.n → get_or t v 0 ≡ 0 → StartingAt (as_model g) (weigh w) v (get_or s v 0)
+    pub kept : (v : ℕ) → v < g.n → get_or t v false ≡ false → StartingAt (as_model g) (weigh w) v (get_or s v 0)
     pub past : (v : ℕ) → g.n ≤ v → get_or s v 0 ≡ 0
 
   pub backward_none : (s : List ℕ) → StartsBut (as_model g) (weigh w) t s → Backward s n
@@ -58,7 +58,7 @@ module _ {g : Graph} {e st o : List ℕ} {n : ℕ} {w : List ℕ} (T : Weighed g
         go (inl z) = omega (arith, T.light u known)
         go (inr r) = omega (arith, T.light u known, r.2, starting-small T (after (nth e st u r.0) (nth-joins T u r.0 known r.1)))
 
-    module _ (x : ℕ) (is : x ≡ pick (eqb (get_or t u 0) 0) (get_or s u 0) (weigh w u + most)) where
+    module _ (x : ℕ) (is : x ≡ pick (get_or t u false) (weigh w u + most) (get_or s u 0)) where
       here : get_or (set s u x) u 0 ≡ x
       here = get_or-set_same s u x 0 (omega (arith, B.size, known, few T))
 
@@ -96,11 +96,11 @@ module _ {g : Graph} {e st o : List ℕ} {n : ℕ} {w : List ℕ} (T : Weighed g
 
       sum : StartingAt (as_model g) (weigh w) u (get_or (set s u x) u 0)
       unfolding as_model
-      sum = go (ℕ_discrete (get_or t u 0) 0)
+      sum = go (cases (get_or t u false))
         where
-          go : Dec (get_or t u 0 ≡ 0) → StartingAt (as_model g) (weigh w) u (get_or (set s u x) u 0)
-          go (yes z) = let q : x ≡ get_or s u 0 = rw (eq-eqb (get_or t u 0) 0 z) at is in rw (here ∙ q) (B.kept u known z)
-          go (no z) = made (rw (ne_eqb (get_or t u 0) 0 z) at is)
+          go : (get_or t u false ≡ true) ⊎ (get_or t u false ≡ false) → StartingAt (as_model g) (weigh w) u (get_or (set s u x) u 0)
+          go (inr z) = let q : x ≡ get_or s u 0 = rw z at is in rw (here ∙ q) (B.kept u known z)
+          go (inl z) = made (rw z at is)
 
       pub backward_more : Backward (set s u x) k
       backward_more = record {
@@ -118,7 +118,7 @@ module _ {g : Graph} {e st o : List ℕ} {n : ℕ} {w : List ℕ} (T : Weighed g
               later (yes z) = absurd (q (sym (vertex-at T v m) ∙ ap (λ (i : ℕ). get_or o i 0) z))
               later (no z) = omega arith
 
-          kept : (v : ℕ) → v < g.n → get_or t v 0 ≡ 0 → Dec (v ≡ u) → StartingAt (as_model g) (weigh w) v (get_or (set s u x) v 0)
+          kept : (v : ℕ) → v < g.n → get_or t v false ≡ false → Dec (v ≡ u) → StartingAt (as_model g) (weigh w) v (get_or (set s u x) v 0)
           kept v m z (yes q) = rw q sum
           kept v m z (no q) = rw (there v q) (B.kept v m z)
 

@@ -2,16 +2,14 @@
 -- comes they have all told it their sums, which were done by then, so its own is done as well. Nothing is told to an earlier place, so what
 -- is done stays, and what is told to a vertex without a mark is less than its sum.
 use mathlib.Core.Path.{◌≡◌, refl, sym, ap, ◌∙◌}
-use mathlib.Core.Bool.{true, false}
+use mathlib.Core.Bool.{Bool, true, false}
 use mathlib.Core.List.{List}
 use mathlib.Core.Logic.{◌⊎◌, inl, inr}
 use Prim.Native.Nat.{ℕ, ◌+◌, ◌≤◌, ◌<◌}
 use native.Mathlib.Omega.{arith}
 use native.Mathlib.Decide.{ℕ_discrete}
-use lib.Dec.{eqb}
 use lib.ListN.{get_or, length, set, length-set}
 use lib.Seq.{get_or-set_same, get_or-set_other}
-use borrow.Author.Tests.{eq-eqb, ne_eqb}
 use Rattle.model.specs.Places.{pick}
 use Rattle.model.specs.Graph.{Edge}
 use Rattle.model.specs.Summary.{EndingAt}
@@ -25,7 +23,7 @@ use Rattle.summary.specs.Tables.{Ends, EndsBut}
 use Rattle.summary.proofs.Along.{well_formed, few, vertex, place, place-below, place_at, vertex-at, rises, ending-small}
 use Rattle.summary.proofs.Raised.{told-apart, told_raised, Raised, raised_none, raised_alike, raised_more}
 
-module _ {g : Graph} {e st o : List ℕ} {n : ℕ} {w : List ℕ} (T : Weighed g e st o n w) (t : List ℕ) where
+module _ {g : Graph} {e st o : List ℕ} {n : ℕ} {w : List ℕ} (T : Weighed g e st o n w) (t : List Bool) where
   -- what the predecessors before place j have told v: the largest of their sums, or 0
   abbrev SoFar : List ℕ → ℕ → ℕ → Type 0
   SoFar s = Raised T (λ u v. get_or s u 0) (λ v. 0) s
@@ -33,8 +31,8 @@ module _ {g : Graph} {e st o : List ℕ} {n : ℕ} {w : List ℕ} (T : Weighed g
   pub record Forward (s : List ℕ) (j : ℕ) : Type 0 where
     pub size : length s ≡ 128
     pub done : (v : ℕ) → v < g.n → place T v < j → EndingAt (as_model g) (weigh w) v (get_or s v 0)
-    pub kept : (v : ℕ) → v < g.n → get_or t v 0 ≡ 0 → EndingAt (as_model g) (weigh w) v (get_or s v 0)
-    pub told : (v : ℕ) → v < g.n → (get_or t v 0 ≡ 0 → ⊥) → j ≤ place T v → SoFar s j v
+    pub kept : (v : ℕ) → v < g.n → get_or t v false ≡ false → EndingAt (as_model g) (weigh w) v (get_or s v 0)
+    pub told : (v : ℕ) → v < g.n → get_or t v false ≡ true → j ≤ place T v → SoFar s j v
     pub past : (v : ℕ) → g.n ≤ v → get_or s v 0 ≡ 0
 
   pub forward_none : (s : List ℕ) → EndsBut (as_model g) (weigh w) t s → Forward s 0
@@ -61,23 +59,23 @@ module _ {g : Graph} {e st o : List ℕ} {n : ℕ} {w : List ℕ} (T : Weighed g
     unfolding as_model
     done x d = F.done x ((well_formed T).from x u d) (before x d)
 
-    so_far : (get_or t u 0 ≡ 0 → ⊥) → SoFar s j u
+    so_far : get_or t u false ≡ true → SoFar s j u
     so_far z = F.told u known z (omega (arith, place_at T j l))
 
     pub forward_fits : get_or s u 0 + weigh w u < 18446744073709551616
     unfolding as_model
-    forward_fits = go (ℕ_discrete (get_or t u 0) 0)
+    forward_fits = go (cases (get_or t u false))
       where
         by : (get_or s u 0 ≡ 0) ⊎ ((x : ℕ) × Edge (as_model g) x u × (place T x < j) × (get_or s u 0 ≡ get_or s x 0))
             → get_or s u 0 + weigh w u < 18446744073709551616
         by (inl q) = omega (arith, T.light u known)
         by (inr r) = omega (arith, T.light u known, r.3, ending-small T (done r.0 r.1))
 
-        go : Dec (get_or t u 0 ≡ 0) → get_or s u 0 + weigh w u < 18446744073709551616
-        go (yes z) = omega (arith, T.light u known, ending-small T (F.kept u known z))
-        go (no z) = by (so_far z).is
+        go : (get_or t u false ≡ true) ⊎ (get_or t u false ≡ false) → get_or s u 0 + weigh w u < 18446744073709551616
+        go (inr z) = omega (arith, T.light u known, ending-small T (F.kept u known z))
+        go (inl z) = by (so_far z).is
 
-    module _ (y : ℕ) (is : y ≡ pick (eqb (get_or t u 0) 0) (get_or s u 0) (get_or s u 0 + weigh w u)) where
+    module _ (y : ℕ) (is : y ≡ pick (get_or t u false) (get_or s u 0 + weigh w u) (get_or s u 0)) where
       here : get_or (set s u y) u 0 ≡ y
       here = get_or-set_same s u y 0 (omega (arith, F.size, known, few T))
 
@@ -104,11 +102,11 @@ module _ {g : Graph} {e st o : List ℕ} {n : ℕ} {w : List ℕ} (T : Weighed g
 
       sum : EndingAt (as_model g) (weigh w) u (get_or (set s u y) u 0)
       unfolding as_model
-      sum = go (ℕ_discrete (get_or t u 0) 0)
+      sum = go (cases (get_or t u false))
         where
-          go : Dec (get_or t u 0 ≡ 0) → EndingAt (as_model g) (weigh w) u (get_or (set s u y) u 0)
-          go (yes z) = let q : y ≡ get_or s u 0 = rw (eq-eqb (get_or t u 0) 0 z) at is in rw (here ∙ q) (F.kept u known z)
-          go (no z) = made (so_far z) (rw (ne_eqb (get_or t u 0) 0 z) at is)
+          go : (get_or t u false ≡ true) ⊎ (get_or t u false ≡ false) → EndingAt (as_model g) (weigh w) u (get_or (set s u y) u 0)
+          go (inr z) = let q : y ≡ get_or s u 0 = rw z at is in rw (here ∙ q) (F.kept u known z)
+          go (inl z) = made (so_far z) (rw z at is)
 
       pub forward_long : length (set s u y) ≡ 128
       forward_long = length-set s u y ∙ F.size
@@ -122,7 +120,7 @@ module _ {g : Graph} {e st o : List ℕ} {n : ℕ} {w : List ℕ} (T : Weighed g
         over v m h (no q) = rw (early v (omega arith) ∙ there v (other v q)) (F.done v m (omega arith))
 
         -- an edge raises no sum that is known already
-        same : (v : ℕ) → v < g.n → get_or t v 0 ≡ 0 → j < place T v → get_or s' v 0 ≡ get_or s v 0
+        same : (v : ℕ) → v < g.n → get_or t v false ≡ false → j < place T v → get_or s' v 0 ≡ get_or s v 0
         unfolding as_model
         same v m z h = go (cases ((as_model g).edge u v))
           where
@@ -143,11 +141,11 @@ module _ {g : Graph} {e st o : List ℕ} {n : ℕ} {w : List ℕ} (T : Weighed g
           past = λ v h. told-apart T known D v (λ d. omega (arith, (well_formed T).to u v d)) ∙ (there v (λ q. omega (arith, known)) ∙ F.past v h);
         }
           where
-            kept : (v : ℕ) → v < g.n → get_or t v 0 ≡ 0 → (place T v ≤ j) ⊎ (j < place T v) → EndingAt (as_model g) (weigh w) v (get_or s' v 0)
+            kept : (v : ℕ) → v < g.n → get_or t v false ≡ false → (place T v ≤ j) ⊎ (j < place T v) → EndingAt (as_model g) (weigh w) v (get_or s' v 0)
             kept v m z (inl h) = over v m (omega arith) (ℕ_discrete (place T v) j)
             kept v m z (inr h) = rw (same v m z h) (F.kept v m z)
 
-            told : (v : ℕ) → v < g.n → (get_or t v 0 ≡ 0 → ⊥) → j + 1 ≤ place T v → SoFar s' (j + 1) v
+            told : (v : ℕ) → v < g.n → get_or t v false ≡ true → j + 1 ≤ place T v → SoFar s' (j + 1) v
             told v m z h =
                 let r : List ℕ = set s u y in
                 let D' : Told e st (λ x. get_or r u 0) u (many st u) r s' = record { size = D.size; at = λ x. rw here (D.at x) } in

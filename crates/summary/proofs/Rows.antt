@@ -36,14 +36,6 @@ module _ (e st : List ℕ) (u : ℕ) where
     unfolding any
     told_none long = record { size = long; at = λ x. refl }
 
-    -- what is raised to 0 stays
-    pub told-nothing : (k : ℕ) → length s ≡ 128 → ((x : ℕ) → b x ≡ 0) → Told e st b u k s s
-    told-nothing k long none = record { size = long; at = λ x. same x (goes_to_next e st u k x) }
-      where
-        same : (x : ℕ) (c : Bool) → get_or s x 0 ≡ pick c (max (get_or s x 0) (b x)) (get_or s x 0)
-        same x true = omega (arith, none x)
-        same x false = refl
-
     -- what was raised to this much is not raised again
     once : (c : Bool) (a y : ℕ) → max (pick c (max a y) a) y ≡ max a y
     once true a y = omega arith

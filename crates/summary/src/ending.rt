@@ -1,5 +1,5 @@
 // The largest sum that ends at each vertex.
-ghost use Rattle.std.specs.Prelude.{◌≡◌, ◌+◌, ◌<◌, max, eqb, get_or, length};
+ghost use Rattle.std.specs.Prelude.{◌≡◌, false, ◌+◌, ◌<◌, get_or, length};
 ghost use Rattle.model.specs.Places.{pick};
 ghost use Rattle.graph.specs.declared.Graph.{Graph};
 ghost use Rattle.graph.specs.Model.{as_model};
@@ -9,22 +9,17 @@ ghost use Rattle.summary.specs.Tables.{Ends, EndsBut};
 
 use super::row::{many, nth};
 
-pub(crate) fn larger(a: u64, b: u64) -> u64
-    ensures { result ≡ max a b }
-{
-    if a < b { b } else { a }
-}
-
 // The sum of u, made of what it was told and its own weight where it is marked.
-fn sum(weight: &[u64; 128], mark: &[u8; 128], sums: &[u64; 128], u: usize) -> u64
+fn sum(weight: &[u64; 128], mark: &[bool; 128], sums: &[u64; 128], u: usize) -> u64
     requires u_bound { u < 128 }
     requires u_bound_2 { get_or sums.now u 0 + weigh weight.now u < 18446744073709551616 }
-    ensures { result ≡ pick (eqb (get_or mark.now u 0) 0) (get_or sums.now u 0) (get_or sums.now u 0 + weigh weight.now u) }
+    ensures { result ≡ pick (get_or mark.now u false) (get_or sums.now u 0 + weigh weight.now u) (get_or sums.now u 0) }
 {
-    if mark[u] == 0 {
-        return sums[u];
+    if mark[u] {
+        sums[u] + weight[u]
+    } else {
+        sums[u]
     }
-    sums[u] + weight[u]
 }
 
 // Each edge of u raises what stands for the vertex that it goes to.
@@ -33,12 +28,9 @@ fn tell(edge: &[u16; 1024], start: &[u16; 129], u: usize, sum: u64, sums: &mut [
     requires sums_len { length sums.old ≡ 128 }
     ensures { row.Told edge.now start.now (λ x. sum) u (row.many start.now u) sums.old sums.new }
 {
-    let count = many(start, u);
-    let mut k: usize = 0;
-    while k < count {
+    for k in 0..many(start, u) {
         let x = nth(edge, start, u, k);
-        sums[x] = larger(sums[x], sum);
-        k += 1;
+        sums[x] = sums[x].max(sum);
     }
 }
 
@@ -50,18 +42,16 @@ pub(crate) fn ending(
     order: &[u8; 128],
     n: usize,
     weight: &[u64; 128],
-    mark: &[u8; 128],
+    mark: &[bool; 128],
     sums: &mut [u64; 128],
 )
     requires { (g : Graph) × Weighed g edge.now start.now order.now n weight.now × EndsBut (as_model g) (weigh weight.now) mark.now sums.old }
     ensures { (g : Graph) → Weighed g edge.now start.now order.now n weight.now → EndsBut (as_model g) (weigh weight.now) mark.now sums.old → Ends (as_model g) (weigh weight.now) sums.new }
 {
-    let mut j: usize = 0;
-    while j < n {
+    for j in 0..n {
         let u = order[j] as usize;
         let own = sum(weight, mark, sums, u);
         sums[u] = own;
         tell(edge, start, u, own, sums);
-        j += 1;
     }
 }

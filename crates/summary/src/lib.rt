@@ -33,7 +33,7 @@ pub fn afresh(
     requires { (g : Graph) × Weighed g edge.now start.now order.now n weight.now }
     ensures { (g : Graph) → Weighed g edge.now start.now order.now n weight.now → Tables (as_model g) weight.now result }
 {
-    let all = [1u8; 128];
+    let all = [true; 128];
     let mut summary = Summary {
         ending: [0u64; 128],
         starting: [0u64; 128],

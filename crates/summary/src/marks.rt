@@ -1,36 +1,26 @@
 // Which sums a changed weight touches: those that end at the vertex or at what lies ahead of it, and those that start at the vertex or at what
-// stands behind it. A mark is 1 where a sum is to be made again, and 0 elsewhere.
-ghost use Rattle.std.specs.Prelude.{◌≡◌, List, ℕ, ◌≤◌, ◌<◌, max, eqb, get_or, length};
-ghost use Rattle.model.specs.Places.{pick};
+// stands behind it. A vertex whose sum is to be made again is marked.
+ghost use Rattle.std.specs.Prelude.{◌≡◌, false, ◌||◌, List, ℕ, ◌≤◌, ◌<◌, get_or, length};
+ghost use Rattle.model.specs.Places.{pick, any};
 ghost use Rattle.graph.specs.declared.Graph.{Graph};
 ghost use Rattle.graph.specs.Model.{as_model};
 ghost use Rattle.paths.specs.Ahead.{Weighed};
 ghost use Rattle.summary.specs.Row as row;
-ghost use Rattle.summary.specs.Tables.{Ahead, Behind, Cleared};
+ghost use Rattle.summary.specs.Tables.{Ahead, Behind, Cleared, Marked};
 
 use super::row::{many, nth};
 
-fn larger(a: u8, b: u8) -> u8
-    ensures { result ≡ max a b }
-{
-    if a < b { b } else { a }
-}
-
-// The mark of u goes to its successors.
-fn hand_on(edge: &[u16; 1024], start: &[u16; 129], u: usize, mark: u8, marks: &mut [u8; 128])
+// The successors of u are marked, where u is.
+fn hand_on(edge: &[u16; 1024], start: &[u16; 129], u: usize, marks: &mut [bool; 128])
     requires row { row.Row edge.now start.now u }
     requires marks_len { length marks.old ≡ 128 }
-    ensures { row.Told edge.now start.now (λ x. mark) u (row.many start.now u) marks.old marks.new }
+    ensures { Marked edge.now start.now (get_or marks.old u false) u (row.many start.now u) marks.old marks.new }
 {
-    if mark == 0 {
+    if !marks[u] {
         return;
     }
-    let count = many(start, u);
-    let mut k: usize = 0;
-    while k < count {
-        let x = nth(edge, start, u, k);
-        marks[x] = larger(marks[x], mark);
-        k += 1;
+    for k in 0..many(start, u) {
+        marks[nth(edge, start, u, k)] = true;
     }
 }
 
@@ -40,35 +30,28 @@ pub(crate) fn ahead(
     order: &[u8; 128],
     n: usize,
     v: usize,
-) -> [u8; 128]
+) -> [bool; 128]
     requires { (g : Graph) × (w : List ℕ) × Weighed g edge.now start.now order.now n w × (v < g.n) }
     ensures { (g : Graph) (w : List ℕ) → Weighed g edge.now start.now order.now n w → Ahead (as_model g) v result }
 {
-    let mut marks = [0u8; 128];
-    marks[v] = 1;
-    let mut j: usize = 0;
-    while j < n {
-        let u = order[j] as usize;
-        let mark = marks[u];
-        hand_on(edge, start, u, mark, &mut marks);
-        j += 1;
+    let mut marks = [false; 128];
+    marks[v] = true;
+    for j in 0..n {
+        hand_on(edge, start, order[j] as usize, &mut marks);
     }
     marks
 }
 
-// The mark that u has or gets from its successors.
-fn taken(edge: &[u16; 1024], start: &[u16; 129], marks: &[u8; 128], u: usize) -> u8
+// Whether u is marked, or one of its successors is.
+fn taken(edge: &[u16; 1024], start: &[u16; 129], marks: &[bool; 128], u: usize) -> bool
     requires { row.Row edge.now start.now u }
-    ensures { result ≡ max (get_or marks.now u 0) (row.most_over edge.now start.now marks.now u (row.many start.now u)) }
+    ensures { result ≡ (get_or marks.now u false || any (λ k. get_or marks.now (row.nth edge.now start.now u k) false) (row.many start.now u)) }
 {
-    let count = many(start, u);
-    let mut most = marks[u];
-    let mut k: usize = 0;
-    while k < count {
-        most = larger(most, marks[nth(edge, start, u, k)]);
-        k += 1;
+    let mut marked = marks[u];
+    for k in 0..many(start, u) {
+        marked = marked | marks[nth(edge, start, u, k)];
     }
-    most
+    marked
 }
 
 pub(crate) fn behind(
@@ -77,36 +60,32 @@ pub(crate) fn behind(
     order: &[u8; 128],
     n: usize,
     v: usize,
-) -> [u8; 128]
+) -> [bool; 128]
     requires { (g : Graph) × (w : List ℕ) × Weighed g edge.now start.now order.now n w × (v < g.n) }
     ensures { (g : Graph) (w : List ℕ) → Weighed g edge.now start.now order.now n w → Behind (as_model g) v result }
 {
-    let mut marks = [0u8; 128];
-    marks[v] = 1;
-    let mut j = n;
-    while 0 < j {
-        j -= 1;
+    let mut marks = [false; 128];
+    marks[v] = true;
+    for j in (0..n).rev() {
         let u = order[j] as usize;
         marks[u] = taken(edge, start, &marks, u);
     }
     marks
 }
 
-fn unmarked(mark: u8, sum: u64) -> u64
-    ensures { result ≡ pick (eqb mark 0) sum 0 }
+fn unmarked(mark: bool, sum: u64) -> u64
+    ensures { result ≡ pick mark 0 sum }
 {
-    if mark == 0 { sum } else { 0 }
+    if mark { 0 } else { sum }
 }
 
 // The sums of marked vertices become 0.
-pub(crate) fn clear(marks: &[u8; 128], n: usize, sums: &mut [u64; 128])
+pub(crate) fn clear(marks: &[bool; 128], n: usize, sums: &mut [u64; 128])
     requires n_bound { n ≤ 128 }
     requires sums_len { length sums.old ≡ 128 }
     ensures { Cleared marks.now n sums.old sums.new }
 {
-    let mut u: usize = 0;
-    while u < n {
+    for u in 0..n {
         sums[u] = unmarked(marks[u], sums[u]);
-        u += 1;
     }
 }

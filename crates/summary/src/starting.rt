@@ -1,5 +1,5 @@
 // The largest sum that starts at each vertex.
-ghost use Rattle.std.specs.Prelude.{◌≡◌, ◌+◌, ◌<◌, eqb, get_or};
+ghost use Rattle.std.specs.Prelude.{◌≡◌, false, ◌+◌, ◌<◌, get_or};
 ghost use Rattle.model.specs.Places.{pick};
 ghost use Rattle.graph.specs.declared.Graph.{Graph};
 ghost use Rattle.graph.specs.Model.{as_model};
@@ -7,7 +7,6 @@ ghost use Rattle.paths.specs.Ahead.{weigh, Weighed};
 ghost use Rattle.summary.specs.Row as row;
 ghost use Rattle.summary.specs.Tables.{Starts, StartsBut};
 
-use super::ending::larger;
 use super::row::{many, nth};
 
 // The largest of the successors' sums, or 0 where there are none.
@@ -15,12 +14,9 @@ fn most(edge: &[u16; 1024], start: &[u16; 129], sums: &[u64; 128], u: usize) -> 
     requires { row.Row edge.now start.now u }
     ensures { result ≡ row.most_over edge.now start.now sums.now u (row.many start.now u) }
 {
-    let count = many(start, u);
     let mut most: u64 = 0;
-    let mut k: usize = 0;
-    while k < count {
-        most = larger(most, sums[nth(edge, start, u, k)]);
-        k += 1;
+    for k in 0..many(start, u) {
+        most = most.max(sums[nth(edge, start, u, k)]);
     }
     most
 }
@@ -30,18 +26,19 @@ fn sum(
     edge: &[u16; 1024],
     start: &[u16; 129],
     weight: &[u64; 128],
-    mark: &[u8; 128],
+    mark: &[bool; 128],
     sums: &[u64; 128],
     u: usize,
 ) -> u64
     requires row { row.Row edge.now start.now u }
     requires u_bound { weigh weight.now u + row.most_over edge.now start.now sums.now u (row.many start.now u) < 18446744073709551616 }
-    ensures { result ≡ pick (eqb (get_or mark.now u 0) 0) (get_or sums.now u 0) (weigh weight.now u + row.most_over edge.now start.now sums.now u (row.many start.now u)) }
+    ensures { result ≡ pick (get_or mark.now u false) (weigh weight.now u + row.most_over edge.now start.now sums.now u (row.many start.now u)) (get_or sums.now u 0) }
 {
-    if mark[u] == 0 {
-        return sums[u];
+    if mark[u] {
+        weight[u] + most(edge, start, sums, u)
+    } else {
+        sums[u]
     }
-    weight[u] + most(edge, start, sums, u)
 }
 
 // The sums of the marked vertices, made from the others' and from their own weights. One pass along the order, from its last vertex to its first:
@@ -52,15 +49,13 @@ pub(crate) fn starting(
     order: &[u8; 128],
     n: usize,
     weight: &[u64; 128],
-    mark: &[u8; 128],
+    mark: &[bool; 128],
     sums: &mut [u64; 128],
 )
     requires { (g : Graph) × Weighed g edge.now start.now order.now n weight.now × StartsBut (as_model g) (weigh weight.now) mark.now sums.old }
     ensures { (g : Graph) → Weighed g edge.now start.now order.now n weight.now → StartsBut (as_model g) (weigh weight.now) mark.now sums.old → Starts (as_model g) (weigh weight.now) sums.new }
 {
-    let mut j = n;
-    while 0 < j {
-        j -= 1;
+    for j in (0..n).rev() {
         let u = order[j] as usize;
         sums[u] = sum(edge, start, weight, mark, sums, u);
     }

@@ -1,18 +1,26 @@
 -- Searches, parts and comparisons, from what the code tests.
-use mathlib.Core.Path.{◌≡◌, refl, sym}
-use mathlib.Core.Bool.{Bool, true, false}
+use mathlib.Core.Path.{◌≡◌, refl, ◌∙◌}
+use mathlib.Core.Bool.{Bool, true, false, ◌&&◌}
+use mathlib.Core.Logic.{◌⊎◌, inl, inr}
 use mathlib.Core.List.{List, [], ◌∷◌}
 use Prim.Native.Nat.{ℕ, zero, suc, ◌+◌, ◌-◌, ◌≤◌, ◌<◌}
 use native.Mathlib.Nat.{le_of_suc-le-suc, not-suc-le-zero}
 use native.Mathlib.Omega.{arith}
 use native.Mathlib.Decide.{ℕ_discrete}
 use lib.ListN.{length, get_or, take, drop}
-use lib.Dec.{eqb}
-use borrow.Author.Tests.{le-leb, lt-leb, eq-eqb, ne_eqb, lt-ltb, le-ltb}
-use Rattle.model.specs.Places.{first}
+use lib.Seq.{ext_get_or}
+use lib.Dec.{eqb, leb}
+use borrow.Author.Tests.{le-leb, lt-leb, eq-eqb}
+use denote.Bor.{Bor}
+use Rattle.std.specs.Prelude.{Option, Some, None, MatchOption, unwrap_or}
+use Rattle.std.specs.List.{slice_range}
+use Rattle.std.specs.Str.{bytes_eq}
+use Rattle.std.proofs.lemmas.Slice.Eq.{bytes_eq-Decides}
+use Rattle.std.proofs.lemmas.Bool.{eqb-true}
+use Rattle.model.specs.Places.{pick, first, every}
 use Rattle.model.proofs.Places.{first-at, first-none, every-at, every_intro}
-use Rattle.model.proofs.Bools.{clash, not-true, right_of}
-use Rattle.texts.specs.Text.{part_of, word_at, same, is_named_of}
+use Rattle.model.proofs.Bools.{both, left-of, right_of, same_test}
+use Rattle.texts.specs.Text.{part_of, same}
 
 -- what stands past the end does not matter where the text has the place
 pub within : (t : List ℕ) (i d e : ℕ) → i < length t → get_or t i d ≡ get_or t i e
@@ -40,39 +48,28 @@ found p n at i l m f e =
 pub not_found : (p : ℕ → Bool) (n at i : ℕ) → i ≡ at + (n - at) → Passed p at i → i ≡ at + first (λ k. p (at + k)) (n - at)
 not_found p n at i l f = omega (arith, first-none (λ k. p (at + k)) (n - at) (λ k h. f k (omega arith)))
 
-module _ (t : List ℕ) (i j : ℕ) where
-  pub part-there : i ≤ j → j ≤ length t → take (j - i) (drop i t) ≡ part_of t i j
-  unfolding part_of
-  part-there l m = rw (le-leb i j l, le-leb j (length t) m) refl
+-- the bytes from place i up to place j, as `get` finds them
+pub part-got : (t : List ℕ) (i j : ℕ) (o : Option (Bor (List ℕ))) (d r : Bor (List ℕ)) → d.now ≡ []
+    → MatchOption o ((j < i) ⊎ (length t < j)) (λ x. (i ≤ j) × (j ≤ length t) × (x.now ≡ slice_range t i j) × (length x.now + i ≡ j))
+    → r ≡ unwrap_or o d → r.now ≡ part_of t i j
+unfolding part_of
+part-got t i j (Some x) d r e h q = rw (q, le-leb i j h.0, le-leb j (length t) h.1) h.2
+part-got t i j None d r e (inl l) q = rw (q, lt-leb i j l) e
+part-got t i j None d r e (inr l) q = rw (q, lt-leb j (length t) l) (e ∙ go (leb i j))
+  where
+    go : (b : Bool) → [] ≡ pick (b && false) (take (j - i) (drop i t)) []
+    go true = refl
+    go false = refl
 
-  pub part_back : j < i → [] ≡ part_of t i j
-  unfolding part_of
-  part_back l = rw (lt-leb i j l) refl
+-- what `==` says of two words
+pub same-is : (a b : List ℕ) → bytes_eq a b ≡ same a b
+unfolding same
+same-is a b = same_test _ _ to from
+  where
+    to : bytes_eq a b ≡ true → eqb (length a) (length b) && every (λ k. eqb (get_or a k 0) (get_or b k 0)) (length a) ≡ true
+    to e = let q : a ≡ b = (bytes_eq-Decides a b).0 e in rw q (both _ _ (eq-eqb (length b) (length b) refl) (every_intro _ (length b) (λ k l. eq-eqb _ _ refl)))
 
-  pub part-past : i ≤ j → length t < j → [] ≡ part_of t i j
-  unfolding part_of
-  part-past l m = rw (le-leb i j l, lt-leb j (length t) m) refl
-
-module _ (a b : List ℕ) where
-  pub other_length : (length a ≡ length b → ⊥) → false ≡ same a b
-  unfolding same
-  other_length n = rw (ne_eqb (length a) (length b) n) refl
-
-  pub other_byte : (i : ℕ) → i < length a → (get_or a i 0 ≡ get_or b i 0 → ⊥) → false ≡ same a b
-  unfolding same
-  other_byte i l n =
-      sym (not-true _ (λ e. clash
-      (every-at (λ k. eqb (get_or a k 0) (get_or b k 0)) (length a) (right_of (eqb (length a) (length b)) _ e) i l)
-      (ne_eqb (get_or a i 0) (get_or b i 0) n)))
-
-  pub same_bytes : length a ≡ length b → ((i : ℕ) → i < length a → get_or a i 0 ≡ get_or b i 0) → true ≡ same a b
-  unfolding same
-  same_bytes e f =
-      sym (rw (eq-eqb (length a) (length b) e) (every_intro (λ k. eqb (get_or a k 0) (get_or b k 0)) (length a) (λ k l. eq-eqb _ _ (f k l))))
-
-module _ (t names w : List ℕ) (k : ℕ) where
-  pub named-there : k < length names → same (word_at t (get_or names k 0)) w ≡ is_named_of t names w k
-  named-there l = rw (lt-ltb k (length names) l) refl
-
-  pub named_past : length names ≤ k → false ≡ is_named_of t names w k
-  named_past l = rw (le-ltb k (length names) l) refl
+    from : eqb (length a) (length b) && every (λ k. eqb (get_or a k 0) (get_or b k 0)) (length a) ≡ true → bytes_eq a b ≡ true
+    from e =
+        (bytes_eq-Decides a b).1 (ext_get_or 0 a b (eqb-true _ _ (left-of _ _ e))
+        (λ i l. eqb-true _ _ (every-at (λ k. eqb (get_or a k 0) (get_or b k 0)) (length a) (right_of (eqb (length a) (length b)) _ e) i l)))

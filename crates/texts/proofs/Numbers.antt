@@ -1,75 +1,77 @@
--- Digits and the number that they are, from what the code tests.
-use mathlib.Core.Path.{◌≡◌, refl, sym, ◌∙◌}
-use mathlib.Core.Logic.{◌⊎◌, inl, inr}
-use mathlib.Core.Bool.{Bool, true, false, ◌&&◌, ◌||◌}
-use mathlib.Core.List.{List}
-use Prim.Native.Nat.{ℕ, suc, ◌+◌, ◌-◌, ◌*◌, ◌≤◌, ◌<◌, min}
+-- The number that a word is, from what the code tests.
+use Rattle.std.proofs.Common.{◌≡◌, refl, sym, ap, ◌∙◌, Bool, true, false, not, ◌&&◌, ◌||◌, List, Some, None, Ok, Err, ℕ, zero, suc, ◌+◌, ◌-◌, ◌*◌, ◌≤◌, ◌<◌, length, arith}
+use lib.ListN.{get_or}
+use lib.Dec.{eqb, ltb}
+use borrow.Author.Tests.{lt-ltb, le-ltb}
 use native.Mathlib.Numerals.{add-one}
-use native.Mathlib.Omega.{arith}
-use lib.ListN.{length, get_or}
-use lib.Dec.{leb, ltb}
-use borrow.Author.Tests.{le-leb, lt-leb, le-ltb, leb-true, ne_eqb}
-use Rattle.model.specs.Places.{pick, every}
-use Rattle.model.proofs.Bools.{cases, or_right, right_of}
-use Rattle.texts.specs.Text.{is_digit, digit_of, decimal, LARGE, NONE, grown, number_of}
+use native.Mathlib.Decide.{ℕ_discrete}
+use Rattle.std.specs.Prelude.{unwrap_or}
+use Rattle.std.specs.List.{list_all}
+use Rattle.std.proofs.lemmas.Option.{none-some}
+use mathlib.Core.Logic.{◌⊎◌, inl, inr}
+use Rattle.model.specs.Places.{pick}
+use Rattle.model.proofs.Bools.{clash, le-or-lt}
+use Rattle.texts.specs.declared.NumberError.TheVariants.{NotDigits, TooLarge}
+use Rattle.texts.specs.Text.{is_digit, decimal, grown, number_of}
 
-pub digit_low : (b : ℕ) → b < 48 → 10 ≡ digit_of b
-digit_low b l = rw (lt-leb 48 b l) refl
-
-pub digit-there : (b : ℕ) → 48 ≤ b → b - 48 < 10 → b - 48 ≡ digit_of b
-digit-there b l m = rw (le-leb 48 b l, le-leb b 57 (omega arith)) refl
-
-pub digit-high : (b : ℕ) → 48 ≤ b → 10 ≤ b - 48 → 10 ≡ digit_of b
-digit-high b l m = rw (le-leb 48 b l, lt-leb b 57 (omega arith)) refl
-
-pub digit-most : (b : ℕ) → digit_of b ≤ 10
-digit-most b = go (cases (is_digit b))
-  where
-    go : (is_digit b ≡ true) ⊎ (is_digit b ≡ false) → digit_of b ≤ 10
-    go (inl e) = rw e (omega (arith, leb-true b 57 (right_of (leb 48 b) (leb b 57) e)))
-    go (inr e) = rw e (omega arith)
-
-pub grown-none : (n d : ℕ) → ltb LARGE n || ltb 9 d ≡ true → NONE ≡ grown n d
-unfolding grown
-grown-none n d e = rw e refl
-
-pub grown_by : (n d : ℕ) → ltb LARGE n || ltb 9 d ≡ false → min (n * 10 + d) LARGE ≡ grown n d
-unfolding grown
-grown_by n d e = rw e refl
-
--- the number that the first n bytes are
-abbrev pub so_far : List ℕ → ℕ → ℕ
-so_far w n = pick (every (λ i. is_digit (get_or w i 0)) n) (min (decimal w n) LARGE) NONE
-
-pub so_far_most : (w : List ℕ) (n : ℕ) → so_far w n ≤ NONE
-so_far_most w n = go (every (λ i. is_digit (get_or w i 0)) n)
-  where
-    go : (b : Bool) → pick b (min (decimal w n) LARGE) NONE ≤ NONE
-    go true = omega arith
-    go false = omega arith
-
-pub so_far_more : (w : List ℕ) (n : ℕ) → grown (so_far w n) (digit_of (get_or w n 0)) ≡ so_far w (n + 1)
-unfolding every decimal
-so_far_more w n = rw add-one (go (cases (every (λ i. is_digit (get_or w i 0)) n)) (cases (is_digit (get_or w n 0))))
-  where
-    go : (every (λ i. is_digit (get_or w i 0)) n ≡ true) ⊎ (every (λ i. is_digit (get_or w i 0)) n ≡ false)
-        → (is_digit (get_or w n 0) ≡ true) ⊎ (is_digit (get_or w n 0) ≡ false)
-        → grown (so_far w n) (digit_of (get_or w n 0)) ≡ so_far w (suc n)
-    go (inl e) (inl f) =
-        let m : ltb LARGE (min (decimal w n) LARGE) ≡ false = le-ltb LARGE (min (decimal w n) LARGE) (omega arith) in
-        let h : get_or w n 0 ≤ 57 = leb-true (get_or w n 0) 57 (right_of (leb 48 (get_or w n 0)) (leb (get_or w n 0) 57) f) in
-        rw (e, f) (sym (grown_by (min (decimal w n) LARGE) (get_or w n 0 - 48) (rw m (le-ltb 9 (get_or w n 0 - 48) (omega arith)))) ∙ omega arith)
-    go (inl e) (inr f) = rw (e, f) (sym (grown-none (min (decimal w n) LARGE) 10 (or_right (ltb LARGE (min (decimal w n) LARGE)) (ltb 9 10) refl)))
-    go (inr e) y = rw e (sym (grown-none NONE (digit_of (get_or w n 0)) refl))
-
-pub number-whole : (w : List ℕ) → (length w ≡ 0 → ⊥) → so_far w (length w) ≡ number_of w
+pub no_number : (w : List ℕ) (a b : Bool) → a ≡ eqb (length w) 0 → b ≡ list_all is_digit w → (a || not b) ≡ true → Err NotDigits ≡ number_of w
 unfolding number_of
-number-whole w n = rw (ne_eqb (length w) 0 n) (go (every (λ i. is_digit (get_or w i 0)) (length w)))
+no_number w a b p q e = rw (← p, ← q) (go a b e)
   where
-    go : (b : Bool) → pick b (min (decimal w (length w)) LARGE) NONE ≡ pick (b && true) (min (decimal w (length w)) LARGE) NONE
-    go true = refl
-    go false = refl
+    go : (a b : Bool) → (a || not b) ≡ true
+        → Err NotDigits ≡ pick (b && not a) (pick (ltb (decimal w (length w)) 4294967296) (Ok (decimal w (length w))) (Err TooLarge)) (Err NotDigits)
+    go true true e = refl
+    go true false e = refl
+    go false true e = absurd (clash e refl)
+    go false false e = refl
 
-pub number-empty : (w : List ℕ) → length w ≡ 0 → NONE ≡ number_of w
-unfolding number_of every
-number-empty w e = rw e refl
+pub decimal_up : (w : List ℕ) (m n : ℕ) → m ≤ n → decimal w m ≤ decimal w n
+unfolding decimal
+decimal_up w m zero l = let e : m ≡ 0 = omega arith in rw e (omega arith)
+decimal_up w m (suc n) l = go (ℕ_discrete m (suc n)) (λ h. decimal_up w m n h)
+  where
+    go : Dec (m ≡ suc n) → (m ≤ n → decimal w m ≤ decimal w n) → decimal w m ≤ decimal w (suc n)
+    go (yes e) ih = rw e (omega arith)
+    go (no e) ih = omega (arith, ih (omega arith))
+
+pub decimal_more : (w : List ℕ) (i : ℕ) → decimal w (i + 1) ≡ decimal w i * 10 + (get_or w i 0 - 48)
+unfolding decimal
+decimal_more w i = rw add-one refl
+
+module _ (w : List ℕ) (a b : Bool) (p : a ≡ eqb (length w) 0) (q : b ≡ list_all is_digit w) (e : (a || not b) ≡ false) where
+  digits : (list_all is_digit w && not (eqb (length w) 0)) ≡ true
+  digits = rw (← p, ← q) (go a b e)
+    where
+      go : (a b : Bool) → (a || not b) ≡ false → (b && not a) ≡ true
+      go false true f = refl
+      go false false f = sym f
+      go true true f = sym f
+      go true false f = sym f
+
+  pub number_there : decimal w (length w) < 4294967296 → Ok (decimal w (length w)) ≡ number_of w
+  unfolding number_of
+  number_there l = rw (digits, lt-ltb (decimal w (length w)) 4294967296 l) refl
+
+  pub number_large : (i : ℕ) → i < length w → 4294967296 ≤ decimal w (i + 1) → Err TooLarge ≡ number_of w
+  unfolding number_of
+  number_large i l h =
+      let m : 4294967296 ≤ decimal w (length w) = omega (arith, decimal_up w (i + 1) (length w) (omega arith)) in
+      rw (digits, le-ltb (decimal w (length w)) 4294967296 m) refl
+
+-- one digit more
+module _ (w : List ℕ) (n i : ℕ) (e : n ≡ decimal w i) where
+  pub more_there : (m : ℕ) → Some m ≡ grown n (get_or w i 0) → (m ≡ decimal w (i + 1)) × (m < 4294967296)
+  more_there m h = go (le-or-lt 4294967296 (n * 10 + (get_or w i 0 - 48)))
+    where
+      go : (4294967296 ≤ n * 10 + (get_or w i 0 - 48)) ⊎ (n * 10 + (get_or w i 0 - 48) < 4294967296) → (m ≡ decimal w (i + 1)) × (m < 4294967296)
+      go (inl l) = absurd (none-some m (sym (rw (le-ltb (n * 10 + (get_or w i 0 - 48)) 4294967296 l) at h)))
+      go (inr l) =
+          let q : m ≡ n * 10 + (get_or w i 0 - 48) = ap (λ o. unwrap_or o 0) (rw (lt-ltb (n * 10 + (get_or w i 0 - 48)) 4294967296 l) at h) in
+          (q ∙ rw (decimal_more w i, ← e) refl, rw q l)
+
+  pub more_large : None ≡ grown n (get_or w i 0) → 4294967296 ≤ decimal w (i + 1)
+  more_large h = go (le-or-lt 4294967296 (n * 10 + (get_or w i 0 - 48)))
+    where
+      go : (4294967296 ≤ n * 10 + (get_or w i 0 - 48)) ⊎ (n * 10 + (get_or w i 0 - 48) < 4294967296) → 4294967296 ≤ decimal w (i + 1)
+      go (inl l) = rw (decimal_more w i, ← e) l
+      go (inr l) = absurd (none-some (n * 10 + (get_or w i 0 - 48)) (rw (lt-ltb (n * 10 + (get_or w i 0 - 48)) 4294967296 l) at h))

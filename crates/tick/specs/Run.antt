@@ -9,6 +9,7 @@
 --   ticked_of g r         what a tick reports and hands back
 --   of_report x           what a tick reports in document 01's numbers: its value is 1 for moved and 0 for done
 --   MOST                 the limit for an instant and all that remains from it on
+use Rattle.std.specs.Prelude.{Ok, Err}
 use Rattle.std.specs.Prelude.{Bool, not, ◌&&◌, ℕ, ◌+◌, get_or}
 use Rattle.model.specs.Places.{pick, count, every, padded}
 use Rattle.model.specs.Graph as model
@@ -18,8 +19,9 @@ use Rattle.graph.specs.Model.{as_model}
 use Rattle.graph.specs.Said.{Said, said_no}
 use Rattle.vset.specs.Members.{is_in, set_of}
 use Rattle.tick.specs.declared.Run.{Run}
-use Rattle.tick.specs.declared.Report.{Report}
-use Rattle.tick.specs.declared.Report.TheVariants.{Moved, Done, Refused}
+use Rattle.tick.specs.Report.{Report}
+use Rattle.tick.specs.Report.{Moved, Done}
+use Rattle.tick.specs.declared.Step.TheVariants as steps
 use Rattle.tick.specs.declared.Ticked.{Ticked}
 
 abbrev pub MOST : ℕ
@@ -57,6 +59,6 @@ ticked_of g r =
     (record { report = Moved; run = record_for (as_model g) (r.instant + 1) (step (as_model g) (state_of r)) })
 
 abbrev pub of_report : Report → Said
-of_report Moved = record { number = 0; place = 0; value = 1 }
-of_report Done = record { number = 0; place = 0; value = 0 }
-of_report (Refused r) = said_no r
+of_report (Ok steps.Moved) = record { number = 0; place = 0; value = 1 }
+of_report (Ok steps.Done) = record { number = 0; place = 0; value = 0 }
+of_report (Err r) = said_no r

@@ -27,15 +27,14 @@ pub struct Run {
 }
 
 #[derive(Clone, Copy)]
-pub enum Report {
+pub enum Step {
     Moved,
     Done,
-    Refused(Refusal),
 }
 
 #[derive(Clone, Copy)]
 pub struct Ticked {
-    pub report: Report,
+    pub report: Result<Step, Refusal>,
     pub run: Run,
 }
 
@@ -59,7 +58,7 @@ impl Run {
         let busy = ready::busy(left);
         if vset::is_empty(busy) {
             return Ticked {
-                report: Report::Done,
+                report: Ok(Step::Done),
                 run: self,
             };
         }
@@ -75,7 +74,7 @@ impl Run {
         self.ran = vset::minus(on, over);
         self.instant = self.instant + 1;
         Ticked {
-            report: Report::Moved,
+            report: Ok(Step::Moved),
             run: self,
         }
     }

@@ -10,8 +10,8 @@ use borrow.Author.Tests.{eqb-true, ltb-false}
 use Rattle.model.specs.Places.{pick, first}
 use Rattle.model.proofs.Places.{first_below}
 use Rattle.graph.specs.declared.Graph.{Graph}
-use Rattle.graph.specs.declared.Answer.{Answer}
-use Rattle.graph.specs.declared.Answer.TheVariants.{Accepted, Refused}
+use Rattle.graph.specs.Answer.{Answer}
+use Rattle.graph.specs.Answer.{Accepted, Refused}
 use Rattle.times.specs.Times.{times_of, too_long_of, judge_times, Fitting}
 
 pub times_fit : (g : Graph) (l : List ℕ) → judge_times g l ≡ Accepted → Fitting g l

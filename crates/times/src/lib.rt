@@ -3,7 +3,7 @@
 #![tactic(auto)]
 
 ghost use Rattle.std.specs.Prelude.{◌≡◌, ◌≤◌, length};
-ghost use Rattle.model.specs.Places.{first, padded};
+ghost use Rattle.model.specs.Places.{padded};
 ghost use Rattle.model.specs.ListSchedule.{begin};
 ghost use Rattle.graph.specs.declared.Graph.{Graph};
 ghost use Rattle.graph.specs.Model.{as_model};
@@ -11,45 +11,39 @@ ghost use Rattle.sets.specs.Sets.{Holds};
 ghost use Rattle.rows.specs.Rows.{predecessor};
 ghost use Rattle.tick.specs.Run.{record_for};
 ghost use Rattle.tick.specs.Lists.{EdgesOf};
-ghost use Rattle.times.specs.Times.{times_of, too_long_of, judge_times};
+ghost use Rattle.times.specs.Times.{times_of, too_long_of, first_of, judge_times};
 
-use graph::{Answer, Refusal};
+use graph::Refusal;
 use tick::Run;
 
-// The first vertex whose time is above its WCET, or n.
-fn first_too_long(wcet: &[u32; 128], n: usize, times: &[u32]) -> usize
-    requires { (n ≤ 128) × (length times.now ≡ n) }
-    ensures { result ≡ first (too_long_of wcet.now times.now) n }
+// The first vertex whose time is above its WCET.
+fn first_too_long(wcet: &[u32; 128], times: &[u32]) -> Option<usize>
+    requires { length times.now ≤ 128 }
+    ensures { result ≡ first_of (too_long_of wcet.now times.now) (length times.now) }
 {
-    let mut v = 0usize;
-    while v < n {
-        if wcet[v] < times[v] {
-            return v;
+    for (v, time) in times.iter().enumerate() {
+        if wcet[v] < *time {
+            return Some(v);
         }
-        v += 1;
     }
-    n
+    None
 }
 
 // 13, then 14 at the first vertex whose time is above its WCET.
-pub fn judge(n: usize, wcet: &[u32; 128], times: &[u32]) -> Answer
+pub fn judge(n: usize, wcet: &[u32; 128], times: &[u32]) -> Result<(), Refusal>
     requires { n ≤ 128 }
     ensures { (g : Graph) → n ≡ g.n → wcet.now ≡ g.wcet → result ≡ judge_times g times.now }
 {
     if times.len() != n {
-        return Answer::Refused(Refusal {
-            number: 13,
-            place: 0,
-        });
+        return Err(Refusal::whole(13));
     }
-    let v = first_too_long(wcet, n, times);
-    if v < n {
-        return Answer::Refused(Refusal {
+    match first_too_long(wcet, times) {
+        Some(v) => Err(Refusal {
             number: 14,
             place: v as u32,
-        });
+        }),
+        None => Ok(()),
     }
-    Answer::Accepted
 }
 
 fn laid(n: usize, times: &[u32]) -> [u32; 128]
@@ -57,11 +51,7 @@ fn laid(n: usize, times: &[u32]) -> [u32; 128]
     ensures { result ≡ padded 128 (times_of times.now) n }
 {
     let mut left = [0u32; 128];
-    let mut v = 0usize;
-    while v < n {
-        left[v] = times[v];
-        v += 1;
-    }
+    left[..n].copy_from_slice(times);
     left
 }
 

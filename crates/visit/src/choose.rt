@@ -21,15 +21,14 @@ pub(crate) fn source(led: &[u8; 128], ways: &[u16; 128], n: usize, k: u64) -> St
     ensures { Begun led.now ways.now n k result }
 {
     let mut base: u64 = 0;
-    let mut v: usize = 0;
-    while v < n {
+    for v in 0..n {
         let next = base + ways::from_source(led[v], ways[v]) as u64;
         if k < next {
             return Step { v, base };
         }
         base = next;
-        v += 1;
     }
+    // Not reached: the sources have more paths than k.
     Step { v: 0, base: 0 }
 }
 
@@ -49,16 +48,14 @@ pub(crate) fn child(
 {
     let last = many(start, u) - 1;
     let mut base = first;
-    let mut j: usize = 0;
-    while j < last {
+    for j in 0..last {
         let v = nth(edge, start, u, j);
         let next = base + ways[v] as u64;
         if k < next {
             return Step { v, base };
         }
         base = next;
-        j += 1;
     }
-    let v = nth(edge, start, u, j);
+    let v = nth(edge, start, u, last);
     Step { v, base }
 }

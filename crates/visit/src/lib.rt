@@ -2,7 +2,7 @@
 // their beginning, so that only what comes after the last common vertex is walked again.
 #![tactic(auto)]
 
-ghost use Rattle.std.specs.Prelude.{◌≡◌, ℕ, ◌-◌, ◌+◌, ◌≤◌, ◌<◌, max, get_or};
+ghost use Rattle.std.specs.Prelude.{◌≡◌, ℕ, ◌-◌, ◌+◌, ◌≤◌, ◌<◌, get_or};
 ghost use Rattle.model.specs.Second.{NewB2};
 ghost use Rattle.model.specs.PathCount.{path_count};
 ghost use Rattle.graph.specs.declared.Graph.{Graph};
@@ -19,12 +19,6 @@ mod cell; // cell.rt: a cell of the path that is walked
 mod choose; // choose.rt: which vertex the path with a number goes to
 mod gain; // gain.rt: what a vertex adds to a path
 
-fn larger(a: u64, b: u64) -> u64
-    ensures { result ≡ max a b }
-{
-    if a < b { b } else { a }
-}
-
 // How many of the first cells the path with the number k has as well: its number is not below theirs, so all up to the last that it is among.
 fn shared(cells: &[[u64; 5]; 128], ways: &[u16; 128], depth: usize, k: u64) -> usize
     requires depth_bound { (depth ≤ 128) × (k ≤ 4096) }
@@ -33,14 +27,12 @@ fn shared(cells: &[[u64; 5]; 128], ways: &[u16; 128], depth: usize, k: u64) -> u
     ensures upper_bound { result ≤ depth }
     ensures k_bound { 0 < result → k < (cell_of cells.now (result - 1)).base + get_or ways.now (cell_of cells.now (result - 1)).v 0 }
 {
-    let mut d = depth;
-    while 0 < d {
-        let c = at(cells, d - 1);
+    for i in (0..depth).rev() {
+        let c = at(cells, i);
         let v = c.v;
         if k < c.base + ways[v] as u64 {
-            return d;
+            return i + 1;
         }
-        d -= 1;
     }
     0
 }
@@ -116,16 +108,14 @@ pub fn largest(
     let mut cells = [[0u64; 5]; 128];
     let mut best: u64 = 0;
     let mut depth: usize = 0;
-    let mut k: u64 = 0;
-    while k < count {
+    for k in 0..count {
         let d = shared(&cells, ways, depth, k);
         let from = rooted(led, ways, rows, kind, wcet, share, n, &mut cells, d, k);
         depth = descend(
             edge, start, ways, rows, kind, wcet, share, &mut cells, from, k,
         );
         let c = at(&cells, depth - 1);
-        best = larger(best, c.value);
-        k += 1;
+        best = best.max(c.value);
     }
     best
 }

@@ -160,12 +160,13 @@ pub fn first(s: Vset, n: u32) -> Vset
 {
     let mut got = none();
     let mut rest = s;
-    let mut j = 0u32;
-    while (j < n) & !is_empty(rest) {
+    for j in 0..n {
+        if is_empty(rest) {
+            return got;
+        }
         let t = lowest(rest);
         got = with(got, t);
         rest = without(rest, t);
-        j += 1;
     }
     got
 }

@@ -51,10 +51,8 @@ fn tell(
     ensures { Told edge.now start end waiting.old (is_in busy) s waiting.new result }
 {
     let mut told = s;
-    let mut i = start as usize;
-    while i < end as usize {
+    for i in start as usize..end as usize {
         told = release(waiting, starts::to(edge[i]), busy, told);
-        i += 1;
     }
     told
 }
@@ -94,10 +92,8 @@ pub fn held(waiting: [u8; 128]) -> Vset
     ensures { Members result (λ v. ltb 0 (get_or waiting v 0)) }
 {
     let mut got = vset::none();
-    let mut v = 0usize;
-    while v < 128 {
+    for v in 0..128 {
         got = vset::with_if(got, v, 0 < waiting[v]);
-        v += 1;
     }
     got
 }
@@ -108,10 +104,8 @@ fn all(n: usize) -> Vset
     ensures { Members result (λ v. ltb v n) }
 {
     let mut got = vset::none();
-    let mut v = 0usize;
-    while v < n {
+    for v in 0..n {
         got = vset::with(got, v);
-        v += 1;
     }
     got
 }
@@ -153,10 +147,8 @@ pub fn agree(pred: &[[u64; 2]; 128], waiting: [u8; 128], busy: Vset, behind: Vse
 {
     let some = vset::either(busy, behind);
     let mut ok = true;
-    let mut v = 0usize;
-    while v < 128 {
+    for v in 0..128 {
         ok = ok & (waiting[v] as u32 == rows::common(pred, v, some));
-        v += 1;
     }
     ok
 }

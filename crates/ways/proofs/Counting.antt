@@ -30,7 +30,7 @@ pub pick_small : (b : Bool) (x : ℕ) → pick b x 0 ≤ x
 pick_small true x = omega arith
 pick_small false x = omega arith
 
-pub cut-more : (f : ℕ → ℕ) (k s x : ℕ) → s ≡ min 4097 (sum f k) → x ≡ min 4097 (s + f k) → x ≡ min 4097 (sum f (k + 1))
+pub cut-more : (f : ℕ → ℕ) (k s x : ℕ) → s ≡ min 4097 (sum f k) → x ≡ min (s + f k) 4097 → x ≡ min 4097 (sum f (k + 1))
 cut-more f k s x a b = omega (arith, sum-next f k)
 
 module _ {g : Graph} {e st o : List ℕ} {n : ℕ} (T : Weighed g e st o n []) where

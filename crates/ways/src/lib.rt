@@ -12,12 +12,6 @@ ghost use Rattle.ways.specs.Counts.{onward_by, whole_by, Counts};
 
 use summary::row::{many, nth};
 
-fn cut(x: u16) -> u16
-    ensures { result ≡ min 4097 x }
-{
-    if 4097 < x { 4097 } else { x }
-}
-
 // The number of u, from those of the vertices that it has an edge to: a sink has the path that ends there.
 fn onward(edge: &[u16; 1024], start: &[u16; 129], ways: &[u16; 128], u: usize) -> u16
     requires row { Row edge.now start.now u }
@@ -29,10 +23,8 @@ fn onward(edge: &[u16; 1024], start: &[u16; 129], ways: &[u16; 128], u: usize) -
         return 1;
     }
     let mut total: u16 = 0;
-    let mut k: usize = 0;
-    while k < count {
-        total = cut(total + ways[nth(edge, start, u, k)]);
-        k += 1;
+    for k in 0..count {
+        total = (total + ways[nth(edge, start, u, k)]).min(4097);
     }
     total
 }
@@ -43,15 +35,14 @@ pub fn table(edge: &[u16; 1024], start: &[u16; 129], order: &[u8; 128], n: usize
     ensures { (g : Graph) → Weighed g edge.now start.now order.now n [] → Counts (as_model g) result }
 {
     let mut ways = [0u16; 128];
-    let mut j = n;
-    while 0 < j {
-        j -= 1;
+    for j in (0..n).rev() {
         let u = order[j] as usize;
         ways[u] = onward(edge, start, &ways, u);
     }
     ways
 }
 
+// `led` is a place of the table that `rows::led` hands over: 0 for a source.
 pub fn from_source(led: u8, ways: u16) -> u16
     ensures { result ≡ pick (eqb led 0) ways 0 }
 {
@@ -65,10 +56,8 @@ pub fn whole(led: &[u8; 128], ways: &[u16; 128], n: usize) -> u16
     ensures { result ≡ whole_by led.now ways.now n }
 {
     let mut total: u16 = 0;
-    let mut v: usize = 0;
-    while v < n {
-        total = cut(total + from_source(led[v], ways[v]));
-        v += 1;
+    for v in 0..n {
+        total = (total + from_source(led[v], ways[v])).min(4097);
     }
     total
 }

@@ -33,10 +33,8 @@ fn rates(cores: &[u8; 10], kinds: usize, by: Measure) -> [u64; 10]
     ensures { result ≡ padded 10 (rates_of by cores.now) kinds }
 {
     let mut list = [0u64; 10];
-    let mut s: usize = 0;
-    while s < kinds {
+    for s in 0..kinds {
         list[s] = rate(by, cores[s]);
-        s += 1;
     }
     list
 }
@@ -54,11 +52,9 @@ pub fn weights<'a>(
 {
     let rate = rates(cores, kinds, by);
     let mut list = [0u64; 128];
-    let mut v: usize = 0;
-    while v < n {
+    for v in 0..n {
         let s = kind[v] as usize;
         list[v] = (wcet[v] as u64) * rate[s];
-        v += 1;
     }
     list
 }

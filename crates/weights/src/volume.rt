@@ -18,11 +18,9 @@ fn vols<'a>(
     ensures { (s : ℕ) → s < 10 → get_or result s 0 ≡ vol (stages kind.now wcet.now cores.now kinds n) s }
 {
     let mut sums = [0u64; 10];
-    let mut v: usize = 0;
-    while v < n {
+    for v in 0..n {
         let s = kind[v] as usize;
         sums[s] = sums[s] + wcet[v] as u64;
-        v += 1;
     }
     sums
 }
@@ -40,19 +38,11 @@ pub fn volume<'a>(
 {
     let ticks = vols(kind, wcet, cores, kinds, n);
     let mut total = Parts(0);
-    let mut s: usize = 0;
-    while s < kinds {
+    for s in 0..kinds {
         let share = Parts::of_ticks(Ticks(ticks[s])).over(cores[s]);
         total = total.plus(share);
-        s += 1;
     }
     total
-}
-
-fn larger(a: u8, b: u8) -> u8
-    ensures { result ≡ max a b }
-{
-    if a < b { b } else { a }
 }
 
 // Which kinds at least one vertex has, whatever its WCET.
@@ -62,10 +52,8 @@ fn used_kinds(kind: &[u8; 128], n: usize) -> [bool; 10]
     ensures { (s : ℕ) → s < 10 → get_or result s false ≡ any (λ v. eqb (get_or kind.now v 0) s) n }
 {
     let mut used = [false; 10];
-    let mut v: usize = 0;
-    while v < n {
-        used[kind[v] as usize] = true;
-        v += 1;
+    for s in &kind[..n] {
+        used[*s as usize] = true;
     }
     used
 }
@@ -84,10 +72,8 @@ pub fn most_cores<'a>(kind: &'a [u8; 128], cores: &'a [u8; 10], kinds: usize, n:
 {
     let used = used_kinds(kind, n);
     let mut most: u8 = 0;
-    let mut s: usize = 0;
-    while s < kinds {
-        most = larger(most, counted(used[s], cores[s]));
-        s += 1;
+    for s in 0..kinds {
+        most = most.max(counted(used[s], cores[s]));
     }
     most
 }

@@ -11,7 +11,7 @@ use Rattle.model.proofs.Places.{first-none}
 use Rattle.graph.specs.File.{many}
 use Rattle.graph.specs.Rules.{holds, places, rule4, rule6, rule8}
 use Rattle.graph.specs.Judge.{place_of, applies, judge_from}
-use Rattle.graph.specs.declared.Answer.TheVariants.{Accepted}
+use Rattle.graph.specs.Answer.{Accepted}
 use Rattle.graph.proofs.Judging.{none-holds, lowest-past}
 
 -- a number that holds for no place does not apply

@@ -2,6 +2,7 @@
 --
 -- Say the types are too many: then 4 applies to both. Say the vertices are: then the types are all there, so 4 and 5 go alike, and 6
 -- applies to both. Say the edges are: then 4 to 7 go alike, and 8 applies to both. Otherwise nothing was cut.
+use Rattle.std.specs.Prelude.{Ok, Err}
 use mathlib.Core.Path.{◌≡◌, refl, sym, ◌∙◌}
 use mathlib.Core.Bool.{true, false, or-true}
 use mathlib.Core.List.{List}
@@ -17,8 +18,8 @@ use Rattle.model.proofs.Places.{count_ext}
 use Rattle.graph.specs.File.{records, byte_at, word_at, order, is_order, many, ordinal}
 use Rattle.graph.specs.Rules.{holds, places, rule4, rule5, rule6, rule7, rule8}
 use Rattle.graph.specs.Judge.{judge_from}
-use Rattle.graph.specs.declared.Answer.{Answer}
-use Rattle.graph.specs.declared.Answer.TheVariants.{Accepted, Refused}
+use Rattle.graph.specs.Answer.{Answer}
+use Rattle.graph.specs.Answer.{Accepted, Refused}
 use Rattle.writer.specs.Lists.{Lists}
 use Rattle.writer.specs.Write.{file_of, wrote_by, wrote_of, room_by, room_after}
 use Rattle.writer.specs.Image.{part, seen}
@@ -210,13 +211,13 @@ module _ (g : Lists) (as_many : length g.kinds ≡ length g.wcets) where
   wrote-cut room = rw (from-two g, eq-eqb (length g.kinds) (length g.wcets) as_many, ← cut g) (go (judge_from 4 (seen g)) refl)
     where
       go : (x : Answer) → judge_from 4 (seen g) ≡ x → wrote_by x (length (seen g)) room ≡ wrote_by x (length (file_of g)) room
-      go Accepted e = rw (uncut g e) refl
-      go (Refused r) e = refl
+      go (Ok _) e = rw (uncut g e) refl
+      go (Err r) e = refl
 
   pub room_cut : (out : List ℕ) → room_by (wrote_by (judge_from 2 (seen g)) (length (seen g)) (length out)) (seen g) out ≡ room_after g out
   unfolding room_after
   room_cut out = rw (← wrote-cut (length out), from-two g) (go (judge_from 4 (seen g)) refl)
     where
       go : (x : Answer) → judge_from 4 (seen g) ≡ x → room_by (wrote_by x (length (seen g)) (length out)) (seen g) out ≡ room_by (wrote_by x (length (seen g)) (length out)) (file_of g) out
-      go Accepted e = rw (uncut g e) refl
-      go (Refused r) e = refl
+      go (Ok _) e = rw (uncut g e) refl
+      go (Err r) e = refl

@@ -15,7 +15,7 @@ use Rattle.model.proofs.Tables.{table-length, table_at, padded-take}
 use Rattle.graph.specs.File.{records, byte_at, word_at, key_at, order, is_order, many, ordinal, column, words, keys, graph_of}
 use Rattle.graph.specs.Rules.{holds, places, rule1, rule2, rule3, rule5, rule7}
 use Rattle.graph.specs.Judge.{judge_from}
-use Rattle.graph.specs.declared.Answer.TheVariants.{Accepted}
+use Rattle.graph.specs.Answer.{Accepted}
 use Rattle.graph.proofs.Judging.{none-holds}
 use Rattle.graph.proofs.Orders.{kind-record, vertex-record, edge-record}
 use Rattle.writer.specs.Lists.{Lists, lists_in, lists_of}

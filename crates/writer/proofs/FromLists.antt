@@ -14,7 +14,7 @@ use Rattle.model.proofs.Tables.{table-length, table_at}
 use Rattle.graph.specs.File.{word_at, key_at, column, words, keys, graph_of}
 use Rattle.graph.specs.Rules.{holds, places, rule1}
 use Rattle.graph.specs.Judge.{judge_from}
-use Rattle.graph.specs.declared.Answer.TheVariants.{Accepted}
+use Rattle.graph.specs.Answer.{Accepted}
 use Rattle.graph.proofs.Judging.{none-holds}
 use Rattle.writer.specs.Lists.{Lists, filled, graph_from}
 use Rattle.writer.specs.Write.{type_of, vertex_of, edge_of, file_of}

@@ -1,4 +1,5 @@
 -- The two round trips: writing what was read gives the same bytes, and reading what was written gives the same lists.
+use Rattle.std.specs.Prelude.{Ok, Err}
 use mathlib.Core.Path.{◌≡◌, refl, sym, ap, ◌∙◌}
 use mathlib.Core.Bool.{Bool, true, false}
 use mathlib.Core.List.{List, ◌++◌}
@@ -11,13 +12,13 @@ use borrow.Author.Tests.{eq-eqb, eqb-true, le-ltb}
 use Rattle.model.specs.Places.{pick}
 use Rattle.graph.specs.File.{graph_of}
 use Rattle.graph.specs.Judge.{judge_from, read_of}
-use Rattle.graph.specs.declared.Answer.{Answer}
-use Rattle.graph.specs.declared.Answer.TheVariants as answers
-use Rattle.graph.specs.declared.Taken.{Taken}
+use Rattle.graph.specs.Answer.{Answer}
+use Rattle.graph.specs.Answer as answers
+use Rattle.graph.specs.Answer.{Taken}
 use Rattle.writer.specs.Lists.{Lists, lists_in, lists_of, filled, graph_from}
 use Rattle.writer.specs.Write.{file_of, wrote_by, wrote_of, room_after}
 use Rattle.writer.specs.RoundTrip.{WrittenBack, ReadBack}
-use Rattle.writer.specs.declared.Wrote.TheVariants.{Bytes, Refused}
+use Rattle.writer.specs.Wrote.{Bytes, Refused}
 use Rattle.writer.proofs.Acceptance.{accepted-from}
 use Rattle.writer.proofs.FromFile.{file_back, as_many}
 use Rattle.writer.proofs.FromLists.{graph_back, file-accepted}
@@ -68,9 +69,9 @@ written g room size h =
     go : (x : Bool) → eqb (length g.kinds) (length g.wcets) ≡ x → (y : Answer) → judge_from 4 (file_of g) ≡ y → (z : Bool) → ltb room (length (file_of g)) ≡ z
         → pick x (wrote_by y (length (file_of g)) room) (Refused (record { number = 13; place = 0 })) ≡ Bytes size → Written g size
     go false p y q z r e = absurd (let c : ◌≡◌ {A = ℕ} 0 1 = cc in omega arith)
-    go true p (answers.Refused f) q z r e = absurd (let c : ◌≡◌ {A = ℕ} 0 1 = cc in omega arith)
-    go true p answers.Accepted q true r e = absurd (let t = rw r at e in let c : ◌≡◌ {A = ℕ} 0 1 = cc in omega arith)
-    go true p answers.Accepted q false r e =
+    go true p (Err f) q z r e = absurd (let c : ◌≡◌ {A = ℕ} 0 1 = cc in omega arith)
+    go true p (Ok _) q true r e = absurd (let t = rw r at e in let c : ◌≡◌ {A = ℕ} 0 1 = cc in omega arith)
+    go true p (Ok _) q false r e =
         record { as_many = eqb-true (length g.kinds) (length g.wcets) p; judged = q; whole = let t = rw r at e in cc }
 
 filled-take : (n : ℕ) (l : List ℕ) → take (length l) (filled n l) ≡ l

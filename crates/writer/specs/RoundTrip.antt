@@ -6,10 +6,10 @@
 --   ReadBack g size out   the lists g, written as size bytes to a room that held out: from these bytes the reader gives the lists
 use Rattle.std.specs.Prelude.{◌≡◌, List, ◌++◌, ℕ, length, take, drop}
 use Rattle.graph.specs.Judge.{read_of}
-use Rattle.graph.specs.declared.Answer.TheVariants.{Accepted}
+use Rattle.graph.specs.Answer.{Accepted}
 use Rattle.writer.specs.Lists.{Lists, lists_in, graph_from}
 use Rattle.writer.specs.Write.{file_of, wrote_of, room_after}
-use Rattle.writer.specs.declared.Wrote.TheVariants.{Bytes}
+use Rattle.writer.specs.Wrote.{Bytes}
 
 pub record WrittenBack (s out : List ℕ) : Type 0 where
   pub file : file_of (lists_in (read_of s).graph) ≡ s

@@ -10,15 +10,16 @@
 --   room_after g out                  what the lent room holds at the end, where it held out
 --
 -- A number is its record's place among its kind. Where the lists are too long for that to be a byte, they are refused.
+use Rattle.std.specs.Prelude.{Ok, Err}
 use Rattle.std.specs.Prelude.{List, [], ◌∷◌, ◌++◌, ℕ, zero, suc, ◌/◌, ◌%◌, length, get_or, drop, eqb, ltb}
 use Rattle.model.specs.Places.{pick}
 use Rattle.graph.specs.Judge.{judge_from}
 use Rattle.graph.specs.Said.{Said, said_no}
-use Rattle.graph.specs.declared.Answer.{Answer}
-use Rattle.graph.specs.declared.Answer.TheVariants as answers
+use Rattle.graph.specs.Answer.{Answer}
+use Rattle.graph.specs.Answer as answers
 use Rattle.writer.specs.Lists.{Lists}
-use Rattle.writer.specs.declared.Wrote.{Wrote}
-use Rattle.writer.specs.declared.Wrote.TheVariants.{Bytes, Refused}
+use Rattle.writer.specs.Wrote.{Wrote}
+use Rattle.writer.specs.Wrote.{Bytes, Refused}
 
 abbrev pub type_record_of : ℕ → ℕ → List ℕ
 type_record_of number cores = 0x54 ∷ number ∷ cores ∷ 0 ∷ 0 ∷ 0 ∷ 0 ∷ 0 ∷ []
@@ -52,8 +53,8 @@ file_of g =
 
 -- the answer where the file is judged so and has `size` bytes: 15 where there is less room
 abbrev pub wrote_by : Answer → ℕ → ℕ → Wrote
-wrote_by answers.Accepted size room = pick (ltb room size) (Refused (record { number = 15; place = 0 })) (Bytes size)
-wrote_by (answers.Refused r) size room = Refused r
+wrote_by (Ok _) size room = pick (ltb room size) (Refused (record { number = 15; place = 0 })) (Bytes size)
+wrote_by (Err r) size room = Refused r
 
 -- 13 first, where types and WCETs differ in length; then 4 to 11, with the places the records would have had; then 15
 unfoldable pub wrote_of : Lists → ℕ → Wrote
@@ -63,13 +64,13 @@ wrote_of g room =
     (Refused (record { number = 13; place = 0 }))
 
 abbrev pub of_wrote : Wrote → Said
-of_wrote (Bytes size) = record { number = 0; place = 0; value = size }
-of_wrote (Refused r) = said_no r
+of_wrote (Ok size) = record { number = 0; place = 0; value = size }
+of_wrote (Err r) = said_no r
 
 -- on success the file, then what stood past it; beside a refusal what stood there
 abbrev pub room_by : Wrote → List ℕ → List ℕ → List ℕ
-room_by (Bytes size) file out = file ++ drop size out
-room_by (Refused r) file out = out
+room_by (Ok size) file out = file ++ drop size out
+room_by (Err r) file out = out
 
 unfoldable pub room_after : Lists → List ℕ → List ℕ
 room_after g out = room_by (wrote_of g (length out)) (file_of g) out

@@ -21,11 +21,8 @@ pub(crate) fn image(
     requires t_value { t.old ≡ replicate 9320 0 }
     ensures { (t.new ≡ imaged (record_at_of (lists cores.now kinds.now wcets.now edges.now) a b) (a + b + e)) × (length t.new ≡ 9320) }
 {
-    let n = a + b + e;
-    let mut k = 0;
-    while k < n {
+    for k in 0..a + b + e {
         let r = record_at(cores, kinds, wcets, edges, a, b, k);
         copies::copy(&r, &mut t[8 * k..]);
-        k += 1;
     }
 }

@@ -14,10 +14,7 @@ fn type_record(number: u8, cores: u8) -> [u8; 8]
 fn vertex_record(number: u8, kind: u8, wcet: u32) -> [u8; 8]
     ensures { result ≡ vertex_record_of number kind wcet }
 {
-    let low = (wcet % 256) as u8;
-    let second = (wcet / 256 % 256) as u8;
-    let third = (wcet / 65536 % 256) as u8;
-    let high = (wcet / 16777216) as u8;
+    let [low, second, third, high] = wcet.to_le_bytes();
     [0x56, number, kind, 0, low, second, third, high]
 }
 

@@ -6,4 +6,4 @@ use Rattle.answers_chart.proofs.shown.Goals as goal
 pub drawn-requires : goal.drawn-requires
 unfolding as_model
 drawn-requires g c =
-    (c.requires, form_accepted (as_model c.args.g) c.args.log.now 0 (sym c.judge-form.ensures ∙ c.in-Accepted.is))
+    (c.requires, form_accepted (as_model c.args.g) c.args.log.now 0 (sym c.judge.ensures ∙ c.in-Ok.is))

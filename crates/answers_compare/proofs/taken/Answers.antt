@@ -3,4 +3,4 @@ use Rattle.reader.proofs.Laying.{read-accepted}
 use Rattle.answers_compare.proofs.taken.Goals as goal
 
 pub with-requires-clause-accepted_graph_2 : goal.with-requires-clause-accepted_graph_2
-with-requires-clause-accepted_graph_2 g c = read-accepted c.args.file.now c.read-taken.ensures (λ i. (c.type_inv.file i).fits) c.in-Accepted.is
+with-requires-clause-accepted_graph_2 g c = read-accepted c.args.file.now c.read.ensures (λ i. (c.type_inv.file i).fits) c.in-Ok.is

@@ -1,11 +1,7 @@
-use mathlib.Core.Path.{◌≡◌}
-use Prim.Native.Nat.{◌-◌, ◌≤◌}
+use Rattle.std.proofs.Common.{◌≡◌}
 use Rattle.model.specs.Places.{padded}
 use Rattle.board.specs.Lists.{wcet_at_of}
 use Rattle.board.proofs.wcets.Given as goal
 
 abbrev pub invariant-loop-v : goal.invariant-loop-v
-invariant-loop-v l = (l.v ≤ 128) × (l.list ≡ padded 128 (wcet_at_of l.t l.names) l.v)
-
-abbrev pub decreases-loop-v : goal.decreases-loop-v
-decreases-loop-v l = 128 - l.v
+invariant-loop-v l = l.ticks-items ≡ padded 128 (wcet_at_of l.t l.names) l.v

@@ -2,10 +2,7 @@ use Rattle.reader.proofs.Again.{usable_again}
 use Rattle.bounds.proofs.figures.Goals as goal
 
 pub figures_of-requires : goal.figures_of-requires
-figures_of-requires c =
-    let r = c.along_rows-order.ensures in
-    record { usable = usable_again c.requires c.header_of-h.ensures r.along; holds = rw c.header_of-h.ensures r.holds }
+figures_of-requires c = usable_again c.requires c.along_rows.ensures
 
 pub returns : goal.returns
-returns c =
-    record { answer_value = c.figures_of.ensures.answer_value; figures = rw c.header_of-h.ensures at c.figures_of.ensures.figures }
+returns c = rw c.along_rows.ensures.graph at c.figures_of.ensures

@@ -4,7 +4,7 @@ use native.Mathlib.Omega.{arith}
 use Rattle.graph.specs.Model.{as_model}
 use Rattle.graph.specs.declared.Graph.{Graph}
 use Rattle.rows.proofs.Telling.{led-source}
-use Rattle.reader.specs.Laid.{graph_in}
+use Rattle.reader.specs.Laid.{on_cores}
 use Rattle.paths.specs.Ahead.{Sources}
 use Rattle.weights.specs.declared.Measure.TheVariants.{Scaled}
 use Rattle.bounds.proofs.Weighing.{small-stages, weighed_by, greatest_by, small_by, scaled-most, scaled-is}
@@ -13,14 +13,14 @@ use Rattle.bounds.proofs.new_of.Goals.{After-led-led, Start}
 
 -- the graph that the lists are
 abbrev given : Start → Graph
-given s = graph_in s.args.h s.args.cores.now s.args.kind.now s.args.wcet.now s.args.edge.now
+given s = (on_cores s.args.laid.now s.args.cores.now).graph
 
 pub led-led-requires : goal.led-led-requires
 led-led-requires c = c.requires.usable.accepted.few_vertices
 
 -- the sources are those that nobody leads to
 unled : (c : After-led-led) → Sources (given (goal.at.After-led-led c).Start) c.led-led.result
-unled c = led-source c.requires.usable.accepted c.requires.holds c.led-led.result c.led-led.ensures
+unled c = led-source c.requires.usable.accepted c.requires.usable.rows c.led-led.result c.led-led.ensures
 
 pub weights-weight-requires : goal.weights-weight-requires
 weights-weight-requires c = small-stages c.requires.usable.accepted

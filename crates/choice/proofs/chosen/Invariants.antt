@@ -1,5 +1,4 @@
 use mathlib.Core.Bool.{◌||◌}
-use Prim.Native.Nat.{◌-◌, ◌≤◌}
 use lib.ListN.{get_or}
 use Rattle.model.specs.Places.{any}
 use Rattle.vset.specs.Members.{is_in, Members}
@@ -7,7 +6,5 @@ use Rattle.choice.specs.Choice.{set_at_of, starts}
 use Rattle.choice.proofs.chosen.Given as goal
 
 abbrev pub invariant-loop-k : goal.invariant-loop-k
-invariant-loop-k l = (l.k ≤ l.kinds) × Members l.got (λ v. is_in l.stay v || any (λ j. starts (is_in l.stay) (is_in l.free) (is_in (set_at_of l.words j)) (get_or l.cores j 0) v) l.k)
-
-abbrev pub decreases-loop-k : goal.decreases-loop-k
-decreases-loop-k l = l.kinds - l.k
+invariant-loop-k l =
+    Members l.got (λ v. is_in l.stay v || any (λ j. starts (is_in l.stay) (is_in l.free) (is_in (set_at_of l.words j)) (get_or l.cores j 0) v) l.k)

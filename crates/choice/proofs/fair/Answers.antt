@@ -1,8 +1,7 @@
 use mathlib.Core.Path.{sym, ap, ap₂, ◌≡◌, ◌∙◌}
 use mathlib.Core.Bool.{Bool, ◌&&◌}
-use Prim.Native.Nat.{ℕ, ◌-◌}
+use Prim.Native.Nat.{ℕ}
 use native.Mathlib.Omega.{arith}
-use borrow.Author.Rules.{rules}
 use lib.Dec.{leb}
 use lib.ListN.{get_or}
 use Rattle.model.specs.Places.{count}
@@ -14,20 +13,17 @@ use Rattle.choice.proofs.fair.Goals as goal
 
 pub loop-k-init : goal.loop-k-init
 unfolding fair_by
-loop-k-init c = (search rules, sym (every-none _))
+loop-k-init c = sym (every-none _)
 
 pub loop-k-preserved : goal.loop-k-preserved
 unfolding fair_by
 loop-k-preserved c =
     let l = c.loop-k in
-    let test : ℕ → Bool = λ k. leb (count (λ v. is_in c.args.ran v && is_in (set_at_of c.args.words.now k) v) 128) (get_or c.args.cores.now k 0) in (
-      search rules,
-      ap₂ ◌&&◌ l.invariant.1 (c.few_marked-ok.ensures ∙ ap (λ (m : Vset). leb (count (λ v. is_in c.args.ran v && is_in m v) 128) (get_or c.args.cores.now l.k 0)) c.set_at.ensures)
-          ∙ sym (every_more test l.k),
-    )
+    let test : ℕ → Bool = λ k. leb (count (λ v. is_in c.args.ran v && is_in (set_at_of c.args.words.now k) v) 128) (get_or c.args.cores.now k 0) in ap₂ ◌&&◌ l.invariant (c.few_marked-ok.ensures ∙ ap (λ (m : Vset). leb (count (λ v. is_in c.args.ran v && is_in m v) 128) (get_or c.args.cores.now l.k 0)) c.set_at.ensures)
+    ∙ sym (every_more test l.k)
 
 pub returns : goal.returns
 returns c =
     let l = c.loop-k in
     let e : l.k ≡ c.args.kinds = omega arith in
-    l.invariant.1 ∙ ap (λ (k : ℕ). fair_by k c.args.cores.now c.args.words.now (is_in c.args.ran)) e
+    l.invariant ∙ ap (λ (k : ℕ). fair_by k c.args.cores.now c.args.words.now (is_in c.args.ran)) e

@@ -1,7 +1,5 @@
 use mathlib.Core.Path.{◌≡◌, refl}
-use Prim.Native.Nat.{◌-◌}
 use native.Mathlib.Omega.{arith}
-use borrow.Author.Rules.{rules}
 use lib.Dec.{eqb}
 use lib.ListN.{get_or}
 use Rattle.vset.specs.Members.{is_in}
@@ -12,25 +10,22 @@ use Rattle.choice.proofs.OfKinds.{no-kinds}
 use Rattle.choice.proofs.of_kinds.Goals as goal
 
 pub loop-v-init : goal.loop-v-init
-loop-v-init c = (search rules, (refl, no-kinds c.args.kind.now))
+loop-v-init c = (refl, no-kinds c.args.kind.now)
 
 pub join-requires : goal.join-requires
 join-requires c =
     let l = c.loop-v in
-    record { words_len = l.invariant.1.0; kind_bound = (c.requires.by_index l.v c.loop-v-test.true, omega arith) }
+    record { words_len = l.invariant.0; kind_bound = (c.requires.by_index l.v c.loop-v-test.true, omega arith) }
 
 pub loop-v-preserved : goal.loop-v-preserved
 loop-v-preserved c =
     let l = c.loop-v in
     let kind = c.args.kind.now in
     let j = c.join.ensures in (
-      search rules,
-      (
-        j.long,
-        λ k h.
-            let m = l.invariant.1.1 k h in
-            gather-more (set_at_of l.words k) (set_at_of c.join.new.words k) (λ u. eqb (get_or kind u 0) k) l.v m (j.each k h (itself (set_at_of l.words k) m.low m.high (is_in (set_at_of l.words k)) (λ u. refl))),
-      ),
+      j.long,
+      λ k h.
+          let m = l.invariant.1 k h in
+          gather-more (set_at_of l.words k) (set_at_of c.join.new.words k) (λ u. eqb (get_or kind u 0) k) l.v m (j.each k h (itself (set_at_of l.words k) m.low m.high (is_in (set_at_of l.words k)) (λ u. refl))),
     )
 
 pub returns : goal.returns
@@ -39,4 +34,4 @@ returns c =
     let l = c.loop-v in
     let n = c.args.n in
     let e : l.v ≡ n = omega arith in
-    record { long = l.invariant.1.0; each = λ k h. rw (← e) (l.invariant.1.1 k h) }
+    record { long = l.invariant.0; each = λ k h. rw (← e) (l.invariant.1 k h) }

@@ -1,15 +1,15 @@
-use Rattle.reader.proofs.Laying.{usable, rows-given}
+use Rattle.std.proofs.lemmas.Result.{err_from_is_err_and}
+use Rattle.reader.proofs.Laying.{usable}
 use Rattle.enough.proofs.Entries.{enough-accepted, enough-refused}
 use Rattle.enough.proofs.enough.Goals as goal
 
+pub returns-in_err-take_rows : goal.returns-in_err-take_rows
+returns-in_err-take_rows c =
+    let p = err_from_is_err_and c.from_residual.result c.from_residual.ensures.1 in
+    rw (p.1, p.2) (enough-refused c.in_err-take_rows.ensures.taken_into)
+
 pub fewest_of-requires : goal.fewest_of-requires
-fewest_of-requires c =
-    record { usable = usable _ _ _ _ _ _ _ _ c.take_rows-h.ensures.taken_into (λ i. (c.shared_slice_known-1.given i).fits) c.in-Accepted.is; holds = rows-given _ c.take_rows-h.result _ _ _ _ _ _ c.take_rows-h.ensures.taken_into c.take_rows-h.ensures.rows_into c.in-Accepted.is }
+fewest_of-requires c = usable c.in_ok-take_rows.ensures.taken_into (λ i. (c.shared_slice_known-1.given i).fits)
 
-pub returns-in-Refused : goal.returns-in-Refused
-returns-in-Refused c =
-    enough-refused _ c.take_rows-h.ensures.taken_into c.nothing.result c.in-Refused.is c.nothing.ensures.answer_value c.nothing.ensures.cores_value
-
-pub returns-in-Accepted : goal.returns-in-Accepted
-returns-in-Accepted c =
-    enough-accepted _ c.take_rows-h.ensures.taken_into c.fewest_of.result c.in-Accepted.is c.fewest_of.ensures
+pub returns : goal.returns
+returns c = enough-accepted _ c.in_ok-take_rows.ensures.taken_into c.fewest_of.ensures

@@ -1,9 +1,5 @@
-use Prim.Native.Nat.{◌-◌, ◌≤◌}
 use Rattle.formed.specs.Passing.{Clocked, Lasted}
 use Rattle.formed.proofs.add_up.Given as goal
 
 abbrev pub invariant-loop-k : goal.invariant-loop-k
-invariant-loop-k l = (l.k ≤ l.m) × Clocked l.n l.log l.k l.totals × Lasted l.log l.k l.lasts
-
-abbrev pub decreases-loop-k : goal.decreases-loop-k
-decreases-loop-k l = l.m - l.k
+invariant-loop-k l = Clocked l.n l.log l.k l.totals × Lasted l.log l.k l.lasts

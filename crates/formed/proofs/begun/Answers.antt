@@ -2,4 +2,4 @@ use Rattle.formed.proofs.Passing.{met_none}
 use Rattle.formed.proofs.begun.Goals as goal
 
 pub returns : goal.returns
-returns c = λ l. met_none l _ c.none-on.ensures
+returns c = λ l. met_none l _ c.none.ensures

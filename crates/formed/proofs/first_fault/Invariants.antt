@@ -1,4 +1,4 @@
-use Prim.Native.Nat.{ℕ, ◌-◌, ◌≤◌, ◌<◌}
+use Prim.Native.Nat.{ℕ, ◌<◌}
 use mathlib.Core.Path.{◌≡◌}
 use mathlib.Core.Bool.{false}
 use Rattle.recorded.specs.Log.{fault}
@@ -6,7 +6,4 @@ use Rattle.formed.specs.Passing.{MetBy}
 use Rattle.formed.proofs.first_fault.Given as goal
 
 abbrev pub invariant-loop-k : goal.invariant-loop-k
-invariant-loop-k l = (l.k ≤ l.m) × ((j : ℕ) → j < l.k → fault l.n l.log j ≡ false) × MetBy l.log l.k l.p
-
-abbrev pub decreases-loop-k : goal.decreases-loop-k
-decreases-loop-k l = l.m - l.k
+invariant-loop-k l = ((j : ℕ) → j < l.k → fault l.n l.log j ≡ false) × MetBy l.log l.k l.p

@@ -4,22 +4,22 @@ use Rattle.formed.proofs.Passing.{few-records, form_length, form_record, form_en
 use Rattle.formed.proofs.judge.Goals as goal
 
 pub returns-then-wrong_length : goal.returns-then-wrong_length
-returns-then-wrong_length c = c.malformed.ensures ∙ sym (form_length _ _ (sym c.wrong_length.ensures ∙ c.if-wrong_length.true))
+returns-then-wrong_length c = rw c.whole.ensures (sym (form_length _ _ (sym c.wrong_length.ensures ∙ c.if-wrong_length.true)))
 
-pub overflow_cast-first : goal.overflow_cast-first
-overflow_cast-first c =
-    omega (arith, c.if-first-log.true, few-records _ (sym c.wrong_length.ensures ∙ c.if-wrong_length.false))
-
-pub returns-then-first-log : goal.returns-then-first-log
-returns-then-first-log c =
-    c.malformed-then-first-log.ensures ∙ sym (form_record _ _ (sym c.wrong_length.ensures ∙ c.if-wrong_length.false) _ c.first_fault-found.ensures c.if-first-log.true)
+pub overflow_cast-result : goal.overflow_cast-result
+overflow_cast-result c =
+    let f = rw c.in-Err.is at c.first_fault.ensures in
+    omega (arith, f.1, few-records _ (sym c.wrong_length.ensures ∙ c.if-wrong_length.false))
 
 pub returns-then-not-is_empty : goal.returns-then-not-is_empty
 returns-then-not-is_empty c =
-    let y = form_end _ _ (sym c.wrong_length.ensures ∙ c.if-wrong_length.false) _ c.first_fault-found.ensures c.requires c.if-first-log.false _ c.is_empty.ensures in
-    c.malformed-then-not-is_empty.ensures ∙ sym (rw c.if-not-is_empty.true at y)
+    let y = form_end _ _ (sym c.wrong_length.ensures ∙ c.if-wrong_length.false) c.requires _ (rw c.in-Ok.is at c.first_fault.ensures) _ c.is_empty.ensures in
+    rw c.whole-then-not-is_empty.ensures (sym (rw c.if-not-is_empty.true at y))
 
-pub returns : goal.returns
-returns c =
-    let y = form_end _ _ (sym c.wrong_length.ensures ∙ c.if-wrong_length.false) _ c.first_fault-found.ensures c.requires c.if-first-log.false _ c.is_empty.ensures in
+pub returns-in-Err : goal.returns-in-Err
+returns-in-Err c = sym (form_record _ _ (sym c.wrong_length.ensures ∙ c.if-wrong_length.false) _ (rw c.in-Err.is at c.first_fault.ensures))
+
+pub returns-else-not-is_empty : goal.returns-else-not-is_empty
+returns-else-not-is_empty c =
+    let y = form_end _ _ (sym c.wrong_length.ensures ∙ c.if-wrong_length.false) c.requires _ (rw c.in-Ok.is at c.first_fault.ensures) _ c.is_empty.ensures in
     sym (rw c.if-not-is_empty.false at y)

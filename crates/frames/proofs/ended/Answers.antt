@@ -10,8 +10,8 @@ pub returns-then-not-over : goal.returns-then-not-over
 returns-then-not-over c =
     rw c.if-not-over.true record { members = members_ext _ _ _ c.requires.v_bound.2 (λ u. sym (and-true (is_in c.args.busy u))); settled_2 = c.requires.settled }
 
-pub settle-hind-requires : goal.settle-hind-requires
-settle-hind-requires c =
+pub settle-requires : goal.settle-requires
+settle-requires c =
     record {
       layout = c.requires.layout;
       unsettled = unsettled _ _ _ _ _ c.requires.settled c.args.v c.requires.v_bound.1 _ _ c.without-rest.ensures.are
@@ -20,4 +20,4 @@ settle-hind-requires c =
 
 pub returns : goal.returns
 returns c =
-    rw c.if-not-over.false record { members = c.without-rest.ensures; settled_2 = c.settle-hind.ensures }
+    rw c.if-not-over.false record { members = c.without-rest.ensures; settled_2 = c.settle.ensures }

@@ -1,6 +1,5 @@
 use mathlib.Core.Path.{◌≡◌}
 use mathlib.Core.List.{◌++◌}
-use Prim.Native.Nat.{◌-◌, ◌≤◌}
 use lib.ListN.{drop}
 use Rattle.model.specs.Places.{table}
 use Rattle.vset.specs.Members.{Members}
@@ -11,7 +10,4 @@ use Rattle.lanes.proofs.name.Given as goal
 
 abbrev pub invariant-loop-k : goal.invariant-loop-k
 invariant-loop-k l =
-    (l.k ≤ l.m) × (l.out ≡ table (lane_at l.n l.log (listed l.kind) (listed l.cores)) l.k ++ drop l.k l.initial.out) × Got l.n l.log l.kind l.cores l.k l.core × Members l.held (has_core l.log l.k)
-
-abbrev pub decreases-loop-k : goal.decreases-loop-k
-decreases-loop-k l = l.m - l.k
+    (l.out ≡ table (lane_at l.n l.log (listed l.kind) (listed l.cores)) l.k ++ drop l.k l.initial.out) × Got l.n l.log l.kind l.cores l.k l.core × Members l.held (has_core l.log l.k)

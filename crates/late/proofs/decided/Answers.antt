@@ -1,21 +1,20 @@
+use Rattle.std.specs.Prelude.{Ok}
 use mathlib.Core.Path.{◌≡◌, refl}
-use mathlib.Core.Logic.{⊎_elim}
 use Prim.Native.Nat.{ℕ, ◌/◌, ◌<◌}
 use native.Mathlib.Omega.{arith}
 use Rattle.model.specs.Bounds.{PARTS, vol, volume, NewB1}
 use Rattle.graph.specs.declared.Graph.{Graph}
 use Rattle.graph.specs.Model.{as_model}
-use Rattle.reader.specs.Laid.{graph_in}
 use Rattle.bounds.proofs.Weighing.{small-stages}
-use Rattle.leaps.proofs.Stopping.{lent}
 use Rattle.late.proofs.Answers.{told-at-once, told_by_run, above}
+use Rattle.late.specs.Lateness.{lateness}
 use Rattle.late.proofs.decided.Goals as goal
 use Rattle.late.proofs.decided.Goals.{then-least-d+else-bound-d, else-least-d}
 use Rattle.late.proofs.decided.Goals.{After-volume-shares, Joined-least-d, Start}
 
--- the graph that the lists are
+-- the graph that is laid
 abbrev given : Start → Graph
-given s = graph_in s.args.h s.args.cores.now s.args.kind.now s.args.wcet.now s.args.edge.now
+given s = s.args.laid.now.graph
 
 pub volume-shares-requires : goal.volume-shares-requires
 volume-shares-requires c = small-stages c.requires.usable.accepted
@@ -26,11 +25,12 @@ unfolding vol volume as_model
 shares c = c.volume-shares.ensures.result_value
 
 pub new_of-new-requires : goal.new_of-new-requires
-new_of-new-requires c = let p = c.requires in record { usable = p.usable; holds = p.holds; shares_value = (shares (goal.at.new_of-new-requires c).After-volume-shares, c.volume-shares.ensures.result_bound) }
+new_of-new-requires c = let p = c.requires in record { usable = p.usable; shares_value = (shares (goal.at.new_of-new-requires c).After-volume-shares, c.volume-shares.ensures.result_bound) }
 
 pub returns-then-bound-d : goal.returns-then-bound-d
 returns-then-bound-d c =
-    let p = c.requires in record { answer_value = refl; told = told-at-once (given (goal.at.returns-then-bound-d c).Start) p.usable.accepted c.args.times.now p.fitting c.args.d c.new_of-new.result.0 c.new_of-new.ensures _ (omega (arith, c.if-bound-d.true, c.ticks-bound.ensures)) refl refl }
+    let p = c.requires in
+    told-at-once (given (goal.at.returns-then-bound-d c).Start) p.usable.accepted c.args.times.now p.fitting c.args.d c.new_of-new.result.0 c.new_of-new.ensures _ (omega (arith, c.if-bound-d.true, c.ticks-bound.ensures)) refl refl
 
 -- where the run is played, NEW-B-1 is above d
 later : (c : Joined-least-d) → (B : ℕ) × NewB1 (as_model (given (goal.at.Joined-least-d c).Start)) B × (c.args.d < B / PARTS)
@@ -40,15 +40,9 @@ later c =
       | else-least-d w ↦ above (given (goal.at.Joined-least-d c).Start) c.requires.usable.accepted c.args.times.now c.requires.fitting c.args.d (omega (arith, shares (goal.at.Joined-least-d c).After-volume-shares, c.ticks-least.ensures, w.if-least-d.false))
     ]
 
-pub looked_up-requires : goal.looked_up-requires
-looked_up-requires c =
-    let p = c.requires in
-    (given (goal.at.looked_up-requires c).Start, lent (given (goal.at.looked_up-requires c).Start) p.usable.accepted _ p.usable.along.starts, p.fitting, p.holds)
-
 pub returns : goal.returns
 returns c =
     let p = c.requires in
-    let q = c.looked_up.ensures in
-    let x = q.yes_value (given (goal.at.returns c).Start) (lent (given (goal.at.returns c).Start) p.usable.accepted _ p.usable.along.starts) p.fitting in
+    let x = c.looked_up.ensures in
     let b = later (goal.at.returns c).Joined-least-d in
-    record { answer_value = q.answer_value; told = told_by_run (given (goal.at.returns c).Start) p.usable.accepted c.args.times.now p.fitting c.args.d b.0 b.1 c.looked_up.result b.2 x.0 x.1 }
+    told_by_run (given (goal.at.returns c).Start) p.usable.accepted c.args.times.now p.fitting c.args.d b.0 b.1 (lateness (Ok c.looked_up.result)) b.2 x.0 x.1

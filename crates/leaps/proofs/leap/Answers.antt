@@ -14,7 +14,7 @@ use Rattle.tick.specs.Lists.{ListsOf}
 use Rattle.leaps.specs.Leaps.{Work, work_of}
 use Rattle.leaps.proofs.OneLeap.{within, at_most, untold, leapt}
 use Rattle.leaps.proofs.leap.Goals as goal
-use Rattle.leaps.proofs.leap.Goals.{After-chosen-on, After-lesser-d, After-settle-behind, Start}
+use Rattle.leaps.proofs.leap.Goals.{After-chosen-on, After-min-d, After-settle-behind, Start}
 
 -- the run before the leap, of the graph g
 abbrev old : Graph → Start → Work
@@ -31,14 +31,14 @@ on-by c g L v =
     c.chosen-on.ensures.are v ∙ ap₂ (λ (k : ℕ) (l : List ℕ). chosen_by k l c.args.words.now (is_in c.minus-able.result) (is_in c.args.m.ran) v) L.kinds_are L.cores_are
 
 -- the leap ends in time
-in_time : (c : After-lesser-d) → c.args.m.instant + c.lesser-d.result ≤ MOST
+in_time : (c : After-min-d) → c.args.m.instant + c.min-d.result ≤ MOST
 unfolding left_of
 in_time c =
     let g = c.requires.lists_of.0 in
     let L = c.requires.lists_of.1 in
     let S = c.requires.lists_of.2 in
-    at_most g L.accepted (old g (goal.at.After-lesser-d c).Start) S c.requires.nonzero (is_in c.minus-able.result) (is_in c.chosen-on.result) c.minus-able.ensures.are c.args.words.now L.words_are (on-by (goal.at.After-lesser-d c).After-chosen-on g L)
-    (is_in c.minus.result) c.minus.ensures.are c.least-fewest.result c.least-fewest.ensures c.args.room c.lesser-d.result c.requires.room_nonzero c.lesser-d.ensures
+    at_most g L.accepted (old g (goal.at.After-min-d c).Start) S c.requires.nonzero (is_in c.minus-able.result) (is_in c.chosen-on.result) c.minus-able.ensures.are c.args.words.now L.words_are (on-by (goal.at.After-min-d c).After-chosen-on g L)
+    (is_in c.minus.result) c.minus.ensures.are c.least-fewest.result c.least-fewest.ensures c.args.room c.min-d.result c.requires.room_nonzero c.min-d.ensures
 
 -- the numbers after it, by the graph's own edges
 settled-by : (c : After-settle-behind) (g : Graph) → Lent g (goal.at.After-settle-behind c).Start → Settled g.edge g.edges c.settle-behind.new.waiting (is_in c.minus-busy.result) c.settle-behind.result
@@ -60,7 +60,7 @@ lower-spent-requires c =
     let S = c.requires.lists_of.2 in record {
       left_len = S.long_left;
       by_index = λ v t. (within g L.accepted (old g (goal.at.lower-spent-requires c).Start) S c.requires.nonzero (is_in c.minus-able.result) (is_in c.chosen-on.result) c.minus-able.ensures.are c.args.words.now L.words_are (on-by (goal.at.lower-spent-requires c).After-chosen-on g L)
-          (is_in c.minus.result) c.minus.ensures.are c.least-fewest.result c.least-fewest.ensures c.args.room c.lesser-d.result c.requires.room_nonzero c.lesser-d.ensures v t).1;
+          (is_in c.minus.result) c.minus.ensures.are c.least-fewest.result c.least-fewest.ensures c.args.room c.min-d.result c.requires.room_nonzero c.min-d.ensures v t).1;
     }
 
 pub settle-behind-requires : goal.settle-behind-requires
@@ -72,14 +72,14 @@ settle-behind-requires c =
     rw (L.edges_are, L.starts_are, edges-counted g L.accepted) record {
       layout = layout g L.accepted;
       unsettled = untold g L.accepted (old g (goal.at.settle-behind-requires c).Start) S c.requires.nonzero (is_in c.minus-able.result) (is_in c.chosen-on.result) c.minus-able.ensures.are c.args.words.now L.words_are (on-by (goal.at.settle-behind-requires c).After-chosen-on g L)
-          (is_in c.minus.result) c.minus.ensures.are c.least-fewest.result c.least-fewest.ensures c.args.room c.lesser-d.result c.requires.room_nonzero c.lesser-d.ensures c.lower-spent.new.left c.lower-spent.result.over c.minus-ran.result c.minus-busy.result c.lower-spent.ensures.left_after c.lower-spent.ensures.members.are c.minus-ran.ensures c.minus-busy.ensures.are;
+          (is_in c.minus.result) c.minus.ensures.are c.least-fewest.result c.least-fewest.ensures c.args.room c.min-d.result c.requires.room_nonzero c.min-d.ensures c.lower-spent.new.left c.lower-spent.result.over c.minus-ran.result c.minus-busy.result c.lower-spent.ensures.left_after c.lower-spent.ensures.members.are c.minus-ran.ensures c.minus-busy.ensures.are;
     }
 
 pub overflow_add-instant : goal.overflow_add-instant
-overflow_add-instant c = omega (arith, in_time (goal.at.overflow_add-instant c).After-lesser-d)
+overflow_add-instant c = omega (arith, in_time (goal.at.overflow_add-instant c).After-min-d)
 
 pub overflow_cast-instant-2 : goal.overflow_cast-instant-2
-overflow_cast-instant-2 c = omega (arith, in_time (goal.at.overflow_cast-instant-2 c).After-lesser-d)
+overflow_cast-instant-2 c = omega (arith, in_time (goal.at.overflow_cast-instant-2 c).After-min-d)
 
 pub stamp-requires : goal.stamp-requires
 stamp-requires c = c.requires.lists_of.2.long_finishes
@@ -88,7 +88,7 @@ pub returns : goal.returns
 unfolding left_of
 returns c g L S =
     leapt g L.accepted (old g (goal.at.returns c).Start) S c.requires.nonzero (is_in c.minus-able.result) (is_in c.chosen-on.result) c.minus-able.ensures.are c.args.words.now L.words_are (on-by (goal.at.returns c).After-chosen-on g L)
-    (is_in c.minus.result) c.minus.ensures.are c.least-fewest.result c.least-fewest.ensures c.args.room c.lesser-d.result c.requires.room_nonzero c.lesser-d.ensures c.lower-spent.new.left c.lower-spent.result.over c.minus-ran.result c.minus-busy.result c.lower-spent.ensures.left_after c.lower-spent.ensures.members.are c.minus-ran.ensures c.minus-busy.ensures.are
+    (is_in c.minus.result) c.minus.ensures.are c.least-fewest.result c.least-fewest.ensures c.args.room c.min-d.result c.requires.room_nonzero c.min-d.ensures c.lower-spent.new.left c.lower-spent.result.over c.minus-ran.result c.minus-busy.result c.lower-spent.ensures.left_after c.lower-spent.ensures.members.are c.minus-ran.ensures c.minus-busy.ensures.are
     c.lower-spent.result.least c.lower-spent.ensures.least_from c.settle-behind.result c.minus-new.result c.settle-behind.new.waiting c.stamp.new.finishes (settled-by (goal.at.returns c).After-settle-behind g L)
     (λ v. c.minus-new.ensures.are v ∙ ap₂ (λ (x y : Bool). x && not y) (c.either.ensures.are v) (c.either-2.ensures.are v))
     c.stamp.ensures

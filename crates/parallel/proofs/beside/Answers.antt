@@ -18,7 +18,7 @@ pub descendants-requires : goal.descendants-requires
 descendants-requires c = record { weighed = (_, c.requires.weighed.1); t_value = c.requires.t_value }
 
 pub loop-v-init : goal.loop-v-init
-loop-v-init c = (search rules, small (goal.at.loop-v-init c).Start, λ g T is H. filled_none (as_model g) _ (c.descendants.ensures g T))
+loop-v-init c = (small (goal.at.loop-v-init c).Start, λ g T is H. filled_none (as_model g) _ (c.descendants.ensures g T))
 
 pub overflow_cast-kind : goal.overflow_cast-kind
 overflow_cast-kind c =
@@ -32,10 +32,9 @@ pub loop-v-preserved : goal.loop-v-preserved
 unfolding as_model
 loop-v-preserved c =
     let l = c.loop-v in (
-      omega (arith, c.loop-v-test.true),
-      l.invariant.1,
+      l.invariant.0,
       λ g T is H. rw c.put.ensures
-          (filled_more (as_model g) l.t _ l.v (omega (arith, c.loop-v-test.true, T.vertices)) (few T) (l.invariant.2 g T is H) H c.set_at-same.result c.apart.result
+          (filled_more (as_model g) l.t _ l.v (omega (arith, c.loop-v-test.true, T.vertices)) (few T) (l.invariant.1 g T is H) H c.set_at-same.result c.apart.result
           (kind-in T is c.of_kinds-words.result c.of_kinds-words.ensures l.v c.loop-v-test.true c.set_at-same.result c.set_at-same.ensures)
           (rw (c.row-above.ensures, c.row-below.ensures) at c.apart.ensures)),
     )
@@ -45,4 +44,4 @@ unfolding as_model
 returns c g T is H =
     let l = c.loop-v in
     let e : l.v ≡ g.n = omega (arith, T.vertices) in
-    filled-all (as_model g) _ (rw e at (l.invariant.2 g T is H))
+    filled-all (as_model g) _ (rw e at (l.invariant.1 g T is H))

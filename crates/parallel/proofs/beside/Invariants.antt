@@ -11,7 +11,4 @@ use Rattle.parallel.proofs.beside.Given as goal
 
 abbrev pub invariant-loop-v : goal.invariant-loop-v
 invariant-loop-v l =
-    (l.v ≤ l.n) × (l.n ≤ 128) × ((g : Graph) → Weighed g l.edge l.start l.order l.n [] → g.kind ≡ l.kind → Holds l.anc (above (as_model g)) → Filled (as_model g) l.t l.v)
-
-abbrev pub decreases-loop-v : goal.decreases-loop-v
-decreases-loop-v l = l.n - l.v
+    (l.n ≤ 128) × ((g : Graph) → Weighed g l.edge l.start l.order l.n [] → g.kind ≡ l.kind → Holds l.anc (above (as_model g)) → Filled (as_model g) l.t l.v)

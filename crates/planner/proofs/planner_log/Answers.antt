@@ -1,6 +1,7 @@
 use mathlib.Core.Path.{◌∙◌, ap}
+use Rattle.codes.proofs.Counts.{wrote_counted}
 use Rattle.codes.specs.Coded.{coded_wrote_of}
 use Rattle.planner.proofs.planner_log.Goals as goal
 
 pub returns : goal.returns
-returns c = (c.coded_wrote.ensures ∙ ap coded_wrote_of c.log.ensures.0, c.log.ensures.1)
+returns c = (c.coded_count.ensures ∙ wrote_counted c.log.result ∙ ap coded_wrote_of c.log.ensures.0, c.log.ensures.1)

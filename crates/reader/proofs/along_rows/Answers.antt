@@ -6,13 +6,13 @@ use Rattle.reader.proofs.along_rows.Goals as goal
 
 pub predecessors-requires : goal.predecessors-requires
 predecessors-requires c =
-    let R = accepted-rows c.requires.accepted_graph c.starts.ensures in
-    record { edges_bound = R.few_edges; by_index = (λ i h. (omega (arith, R.from_known i h, R.few_vertices), omega (arith, R.to_known i h, R.few_vertices))); t_value = c.requires.pred_value }
+    let R = accepted-rows c.requires.accepted_graph c.starts-laid.ensures in
+    record { edges_bound = R.few_edges; by_index = (λ i h. (omega (arith, R.from_known i h, R.few_vertices), omega (arith, R.to_known i h, R.few_vertices))); t_value = c.requires.blank.pred }
 
 pub cyclic-requires : goal.cyclic-requires
 cyclic-requires c =
-    record { rows = accepted-rows c.requires.accepted_graph c.starts.ensures; holds = c.predecessors.ensures; order_len = refl }
+    record { rows = accepted-rows c.requires.accepted_graph c.starts-laid.ensures; holds = c.predecessors.ensures; order_len = c.requires.blank.order }
 
 pub returns : goal.returns
 returns c =
-    record { along = record { starts = c.starts.ensures; order = c.cyclic.ensures.ordered (none_again c.requires.accepted_graph c.cyclic.ensures.value) }; holds = c.predecessors.ensures }
+    record { graph = refl; along = record { starts = c.starts-laid.ensures; order = c.cyclic.ensures.ordered (none_again c.requires.accepted_graph c.cyclic.ensures.value) }; rows = c.predecessors.ensures }

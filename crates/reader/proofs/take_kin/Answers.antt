@@ -1,20 +1,17 @@
-use mathlib.Core.Path.{sym, ◌∙◌}
-use Rattle.reader.proofs.Laying.{taken_refused, lined, kin_not}
+use mathlib.Core.Path.{◌≡◌, refl, sym, ap, ◌∙◌}
+use Rattle.std.proofs.lemmas.Result.{err_from_is_err_and}
+use Rattle.reader.proofs.Laying.{lined, kin_not, rows-into}
 use Rattle.reader.proofs.take_kin.Goals as goal
 
-pub ancestors-requires : goal.ancestors-requires
-ancestors-requires c =
-    let T = c.take_rows-h.ensures.taken_into in
-    record { lined = (_, lined _ c.take_rows-h.result _ _ _ _ _ _ T c.take_rows-h.ensures.rows_into (λ i. (c.shared_slice_known-1.given i).fits) (sym T.answer ∙ c.in-Accepted.is)); t_value = c.requires.pred_value.1 }
+pub ancestors-requires-clause-lined : goal.ancestors-requires-clause-lined
+ancestors-requires-clause-lined c =
+    let T = c.in_ok-take_rows.ensures.taken_into in
+    (_, lined c.args.file.now c.take_rows.new.laid T (λ i. (c.shared_slice_known-1.given i).fits) (sym T.answer))
 
-pub returns-in-Refused : goal.returns-in-Refused
-returns-in-Refused c =
-    let T = c.take_rows-h.ensures.taken_into in
-    let q = c.in-Refused.is in
-    record { taken_into = taken_refused c.refused.ensures (sym T.answer ∙ q); kin_into = kin_not _ T q }
+pub returns-in_err-take_rows-clause-kin_into : goal.returns-in_err-take_rows-clause-kin_into
+returns-in_err-take_rows-clause-kin_into c = kin_not c.args.file.now (sym c.in_err-take_rows.ensures.taken_into.answer)
 
-pub returns-in-Accepted : goal.returns-in-Accepted
-returns-in-Accepted c =
-    let T = c.take_rows-h.ensures.taken_into in
-    let R = c.take_rows-h.ensures.rows_into in
-    record { taken_into = T; kin_into = λ p. record { predecessors = R p; ancestors = c.ancestors.ensures _ (lined _ c.take_rows-h.result _ _ _ _ _ _ T R (λ i. (c.shared_slice_known-1.given i).fits) p) } }
+pub returns-clause-kin_into : goal.returns-clause-kin_into
+returns-clause-kin_into c =
+    let T = c.in_ok-take_rows.ensures.taken_into in
+    λ p. record { predecessors = rows-into T p; ancestors = c.ancestors.ensures _ (lined c.args.file.now c.take_rows.new.laid T (λ i. (c.shared_slice_known-1.given i).fits) p) }

@@ -34,7 +34,7 @@ pub loop-rest-preserved : goal.loop-rest-preserved
 loop-rest-preserved c =
     let l = c.loop-rest in
     let a = c.args in
-    rw c.lesser-best.ensures (least-next (place a.left.now) (is_in a.on) a.top (is_in l.rest) l.best c.next-next.result.v l.invariant (found (goal.at.loop-rest-preserved c).After-next-next).1 (is_in c.next-next.result.rest) c.next-next.ensures.members.are)
+    rw c.min-best.ensures (least-next (place a.left.now) (is_in a.on) a.top (is_in l.rest) l.best c.next-next.result.v l.invariant (found (goal.at.loop-rest-preserved c).After-next-next).1 (is_in c.next-next.result.rest) c.next-next.ensures.members.are)
 
 pub returns : goal.returns
 returns c =

@@ -1,11 +1,8 @@
-use Prim.Native.Nat.{ℕ, ◌-◌, ◌≤◌, ◌<◌}
+use Prim.Native.Nat.{ℕ, ◌<◌}
 use mathlib.Core.Path.{◌≡◌}
 use mathlib.Core.Bool.{false}
 use Rattle.replay.specs.Steps.{above}
 use Rattle.replay.proofs.first_above.Given as goal
 
 abbrev pub invariant-loop-v : goal.invariant-loop-v
-invariant-loop-v l = (l.v ≤ l.n) × ((u : ℕ) → u < l.v → above l.wcet l.totals u ≡ false)
-
-abbrev pub decreases-loop-v : goal.decreases-loop-v
-decreases-loop-v l = l.n - l.v
+invariant-loop-v l = (u : ℕ) → u < l.v → above l.wcet l.totals u ≡ false

@@ -1,35 +1,24 @@
-use mathlib.Core.Path.{◌≡◌, sym, ◌∙◌}
-use native.Mathlib.Omega.{arith}
-use Prim.Native.Nat.{ℕ}
-use Rattle.reader.specs.Laid.{graph_in}
+use mathlib.Core.Path.{sym}
+use Rattle.std.proofs.lemmas.Result.{err_from_is_err_and}
 use Rattle.graph.specs.Model.{as_model}
-use Rattle.graph.specs.declared.Graph.{Graph}
 use Rattle.recorded.specs.Log.{InForm}
 use Rattle.formed.proofs.Forming.{form_refused, form_accepted}
 use Rattle.replay.proofs.judge.Goals as goal
-use Rattle.replay.proofs.judge.Goals.{In-Accepted, Start}
+use Rattle.replay.proofs.judge.Goals.{In_ok-judge}
 
--- the graph whose lists are lent
-abbrev graph : Start → Graph
-graph s = graph_in s.args.h s.args.cores.now s.args.kind.now s.args.wcet.now s.args.edge.now
-
-in_form : (t : In-Accepted) → InForm t.args.h.n t.args.log.now
+in_form : (t : In_ok-judge) → InForm t.args.laid.now.graph.n t.args.log.now
 unfolding as_model
-in_form t = form_accepted (as_model (graph (goal.at.In-Accepted t).Start)) t.args.log.now t.args.room (sym t.judge-form.ensures ∙ t.in-Accepted.is)
+in_form t = form_accepted (as_model t.args.laid.now.graph) t.args.log.now t.args.room (sym t.in_ok-judge.ensures)
 
-pub add_up-spent-requires : goal.add_up-spent-requires
-add_up-spent-requires c = (c.requires.accepted_graph.few_vertices, in_form c)
-
-pub ruled-answer-requires : goal.ruled-answer-requires
-ruled-answer-requires c = record { accepted_graph = c.requires.accepted_graph; starts_value = c.requires.starts_value; holds = c.requires.holds; in_form = (in_form (goal.at.ruled-answer-requires c).In-Accepted, c.add_up-spent.ensures.totals, c.add_up-spent.ensures.lasts) }
-
-pub returns-in-Refused : goal.returns-in-Refused
+pub returns-in_err-judge : goal.returns-in_err-judge
 unfolding as_model
-returns-in-Refused c =
-    record {
-      answer_is = sym (form_refused (as_model (graph (goal.at.returns-in-Refused c).Start)) c.args.log.now c.args.room _ (sym c.judge-form.ensures ∙ c.in-Refused.is));
-      totals_are = λ e. absurd (let z : ◌≡◌ {A = ℕ} 0 1 = cc in omega arith);
-    }
+returns-in_err-judge c =
+    let p = err_from_is_err_and c.from_residual.result c.from_residual.ensures.1 in
+    rw (p.1, p.2) (form_refused (as_model c.args.laid.now.graph) c.args.log.now c.args.room _ (sym c.in_err-judge.ensures))
 
-pub returns-in-Accepted : goal.returns-in-Accepted
-returns-in-Accepted c = record { answer_is = c.ruled-answer.ensures; totals_are = λ e. c.add_up-spent.ensures.totals }
+pub add_up-requires : goal.add_up-requires
+add_up-requires c = (c.requires.accepted.few_vertices, in_form (goal.at.add_up-requires c).In_ok-judge)
+
+pub ruled-requires-clause-in_form : goal.ruled-requires-clause-in_form
+ruled-requires-clause-in_form c =
+    (in_form (goal.at.ruled-requires-clause-in_form c).In_ok-judge, c.add_up.ensures.totals, c.add_up.ensures.lasts)

@@ -1,84 +1,83 @@
-use mathlib.Core.Path.{◌≡◌, refl, sym, ap, ◌∙◌}
+use mathlib.Core.Path.{sym, ◌∙◌}
 use native.Mathlib.Omega.{arith}
 use Prim.Native.Nat.{◌≤◌}
-use Rattle.model.specs.Places.{first}
+use Rattle.model.proofs.Sums.{largest-within}
 use Rattle.graph.specs.File.{records}
 use Rattle.graph.specs.Model.{as_model}
-use Rattle.graph.specs.declared.Graph.{Graph}
-use Rattle.reader.specs.Laid.{graph_in}
+use Rattle.recorded.specs.Log.{instant_at}
 use Rattle.recorded.specs.Recorded.{last_instant}
 use Rattle.recorded.specs.Rules.{rule22}
 use Rattle.recorded.proofs.Judging.{Off}
+use Rattle.recorded.proofs.Records.{fine-at}
 use Rattle.formed.proofs.Passing.{few-records}
 use Rattle.formed.proofs.Clocks.{clock_last}
-use Rattle.frames.specs.Frames.{LentOf, FaultsBy}
+use Rattle.frames.specs.Frames.{FaultsBy, FirstIn}
 use Rattle.replay.proofs.Rows.{next_19, given_19, next_20, given_20, next_21, given_21, next_22, given_22, given_15, all_passed}
 use Rattle.replay.proofs.ruled.Goals as goal
-use Rattle.replay.proofs.ruled.Goals.{After-first_faults-found, Else-above-h, Else-found-last, Else-found-m, Else-found-m-2, Start}
-
--- the graph whose lists are lent
-abbrev graph : Start → Graph
-graph s = graph_in s.args.h s.args.cores.now s.args.kind.now s.args.wcet.now s.args.edge.now
-
-lent : (s : Start) → LentOf (graph s) s.args.h.n s.args.cores.now s.args.kind.now s.args.edge.now s.args.starts.now
-lent s = record { accepted = s.requires.accepted_graph; n_is = refl; cores_are = refl; kind_is = refl; edges_are = refl; starts_are = s.requires.starts_value }
+use Rattle.replay.proofs.ruled.Goals.{After-first_faults-found, In_default, In_default-crowded, In_default-first_above, In_default-idle, Start}
 
 few : (s : Start) → records s.args.log.now ≤ 8192
 few s = few-records s.args.log.now s.requires.in_form.0.right_length
 
+late : (s : Start) → last_instant s.args.log.now ≤ 128000000
+unfolding last_instant
+late s = largest-within (instant_at s.args.log.now) 128000000 (records s.args.log.now) (λ i b. (fine-at s.requires.in_form.0 i b).early)
+
 -- what the pass found
-found : (f : After-first_faults-found) → FaultsBy (as_model (graph (goal.at.After-first_faults-found f).Start)) f.args.log.now (records f.args.log.now) f.first_faults-found.result
-found f = f.first_faults-found.ensures (graph (goal.at.After-first_faults-found f).Start) (lent (goal.at.After-first_faults-found f).Start)
-
--- row after row that does not hold
-off-19 : (e : Else-found-m) → Off (as_model (graph (goal.at.Else-found-m e).Start)) e.args.log.now e.args.room 4
-off-19 e = next_19 (graph (goal.at.Else-found-m e).Start) e.args.log.now e.args.room _ (found (goal.at.Else-found-m e).After-first_faults-found).early e.requires.in_form.0 e.if-found-m.false
-
-off-20 : (e : Else-found-m-2) → Off (as_model (graph (goal.at.Else-found-m-2 e).Start)) e.args.log.now e.args.room 5
-off-20 e = next_20 (graph (goal.at.Else-found-m-2 e).Start) e.args.log.now e.args.room _ (found (goal.at.Else-found-m-2 e).After-first_faults-found).crowded (off-19 (goal.at.Else-found-m-2 e).Else-found-m) e.if-found-m-2.false
-
-off-21 : (e : Else-above-h) → Off (as_model (graph (goal.at.Else-above-h e).Start)) e.args.log.now e.args.room 6
-off-21 e =
-    next_21 (graph (goal.at.Else-above-h e).Start) e.args.log.now e.args.room e.args.totals.now e.requires.in_form.1 _ e.first_above-above.ensures (off-20 (goal.at.Else-above-h e).Else-found-m-2) e.if-above-h.false
+found : (f : After-first_faults-found) → FaultsBy (as_model f.args.laid.now.graph) f.args.log.now (records f.args.log.now) f.first_faults-found.result
+found f = f.first_faults-found.ensures
 
 -- 22 was looked for up to the last instant
-idle : (e : Else-above-h) → e.first_faults-found.result.idle ≡ first (rule22 (as_model (graph (goal.at.Else-above-h e).Start)) e.args.log.now) (last_instant e.args.log.now)
-idle e =
-    (found (goal.at.Else-above-h e).After-first_faults-found).idle ∙ ap (first (rule22 (as_model (graph (goal.at.Else-above-h e).Start)) e.args.log.now)) (sym (clock_last e.requires.in_form.0 e.requires.accepted_graph.few_vertices))
+idle : (f : After-first_faults-found) → FirstIn (rule22 (as_model f.args.laid.now.graph) f.args.log.now) (last_instant f.args.log.now) f.first_faults-found.result.idle
+idle f = rw (clock_last f.requires.in_form.0 f.requires.usable.accepted.few_vertices) (found f).idle
 
-off-22 : (e : Else-found-last) → Off (as_model (graph (goal.at.Else-found-last e).Start)) e.args.log.now e.args.room 7
+-- row after row that does not hold
+off-19 : (e : In_default) → Off (as_model e.args.laid.now.graph) e.args.log.now e.args.room 4
+off-19 e = next_19 e.args.laid.now.graph e.args.log.now e.args.room e.requires.in_form.0 (rw e.in_default.is at (found (goal.at.In_default e).After-first_faults-found).early)
+
+off-20 : (e : In_default-crowded) → Off (as_model e.args.laid.now.graph) e.args.log.now e.args.room 5
+off-20 e = next_20 e.args.laid.now.graph e.args.log.now e.args.room (off-19 (goal.at.In_default-crowded e).In_default) (rw e.in_default-crowded.is at (found (goal.at.In_default-crowded e).After-first_faults-found).crowded)
+
+off-21 : (e : In_default-first_above) → Off (as_model e.args.laid.now.graph) e.args.log.now e.args.room 6
+off-21 e =
+    next_21 e.args.laid.now.graph e.args.log.now e.args.room e.args.totals.now e.requires.in_form.1 (off-20 (goal.at.In_default-first_above e).In_default-crowded) (rw e.in_default-first_above.is at e.first_above.ensures)
+
+off-22 : (e : In_default-idle) → Off (as_model e.args.laid.now.graph) e.args.log.now e.args.room 7
 off-22 e =
-    next_22 (graph (goal.at.Else-found-last e).Start) e.args.log.now e.args.room _ (idle (goal.at.Else-found-last e).Else-above-h) (off-21 (goal.at.Else-found-last e).Else-above-h) (omega (arith, e.if-found-last.false, e.last.ensures.0))
+    next_22 e.args.laid.now.graph e.args.log.now e.args.room (off-21 (goal.at.In_default-idle e).In_default-first_above) (rw e.in_default-idle.is at (idle (goal.at.In_default-idle e).After-first_faults-found))
 
 pub first_faults-found-requires : goal.first_faults-found-requires
-first_faults-found-requires c = record { lent_of = (graph (goal.at.first_faults-found-requires c).Start, lent (goal.at.first_faults-found-requires c).Start, c.requires.holds); in_form = (c.requires.in_form.0, c.requires.in_form.2) }
+first_faults-found-requires c = record { usable = c.requires.usable; in_form = (c.requires.in_form.0, c.requires.in_form.2) }
 
-pub overflow_cast-found : goal.overflow_cast-found
-overflow_cast-found c = omega (arith, c.if-found-m.true, few (goal.at.overflow_cast-found c).Start)
+pub overflow_cast-k : goal.overflow_cast-k
+overflow_cast-k c = let f = rw c.in-Some.is at (found (goal.at.overflow_cast-k c).After-first_faults-found).early in omega (arith, f.1, few (goal.at.overflow_cast-k c).Start)
 
-pub returns-then-found-m : goal.returns-then-found-m
-returns-then-found-m c =
-    c.refused.ensures ∙ sym (given_19 (graph (goal.at.returns-then-found-m c).Start) c.args.log.now c.args.room _ (found (goal.at.returns-then-found-m c).After-first_faults-found).early c.requires.in_form.0 c.if-found-m.true)
+pub returns-in-Some : goal.returns-in-Some
+returns-in-Some c =
+    c.refused.ensures ∙ sym (given_19 c.args.laid.now.graph c.args.log.now c.args.room c.requires.in_form.0 _ (rw c.in-Some.is at (found (goal.at.returns-in-Some c).After-first_faults-found).early))
 
-pub overflow_cast-found-then-found-m-2 : goal.overflow_cast-found-then-found-m-2
-overflow_cast-found-then-found-m-2 c = omega (arith, c.if-found-m-2.true, few (goal.at.overflow_cast-found-then-found-m-2 c).Start)
+pub overflow_cast-k-in-Some-crowded : goal.overflow_cast-k-in-Some-crowded
+overflow_cast-k-in-Some-crowded c = let f = rw c.in-Some-crowded.is at (found (goal.at.overflow_cast-k-in-Some-crowded c).After-first_faults-found).crowded in omega (arith, f.1, few (goal.at.overflow_cast-k-in-Some-crowded c).Start)
 
-pub returns-then-found-m-2 : goal.returns-then-found-m-2
-returns-then-found-m-2 c =
-    c.refused-then-found-m-2.ensures ∙ sym (given_20 (graph (goal.at.returns-then-found-m-2 c).Start) c.args.log.now c.args.room _ (found (goal.at.returns-then-found-m-2 c).After-first_faults-found).crowded (off-19 (goal.at.returns-then-found-m-2 c).Else-found-m) c.if-found-m-2.true)
+pub returns-in-Some-crowded : goal.returns-in-Some-crowded
+returns-in-Some-crowded c =
+    c.refused-in-Some-crowded.ensures ∙ sym (given_20 c.args.laid.now.graph c.args.log.now c.args.room (off-19 (goal.at.returns-in-Some-crowded c).In_default) _ (rw c.in-Some-crowded.is at (found (goal.at.returns-in-Some-crowded c).After-first_faults-found).crowded))
 
-pub returns-then-above-h : goal.returns-then-above-h
-returns-then-above-h c =
-    c.refused-then-above-h.ensures ∙ sym (given_21 (graph (goal.at.returns-then-above-h c).Start) c.args.log.now c.args.room c.args.totals.now c.requires.in_form.1 _ c.first_above-above.ensures (off-20 (goal.at.returns-then-above-h c).Else-found-m-2) c.if-above-h.true)
+pub returns-in-Some-first_above : goal.returns-in-Some-first_above
+returns-in-Some-first_above c =
+    c.refused-in-Some-first_above.ensures ∙ sym (given_21 c.args.laid.now.graph c.args.log.now c.args.room c.args.totals.now c.requires.in_form.1 (off-20 (goal.at.returns-in-Some-first_above c).In_default-crowded) _ (rw c.in-Some-first_above.is at c.first_above.ensures))
 
-pub returns-then-found-last : goal.returns-then-found-last
-returns-then-found-last c =
-    c.refused-then-found-last.ensures ∙ sym (given_22 (graph (goal.at.returns-then-found-last c).Start) c.args.log.now c.args.room _ (idle (goal.at.returns-then-found-last c).Else-above-h) (off-21 (goal.at.returns-then-found-last c).Else-above-h) (omega (arith, c.if-found-last.true, c.last.ensures.0)))
+pub overflow_cast-t : goal.overflow_cast-t
+overflow_cast-t c = let f = rw c.in-Some-idle.is at (idle (goal.at.overflow_cast-t c).After-first_faults-found) in omega (arith, f.1, late (goal.at.overflow_cast-t c).Start)
 
-pub returns-then-room-h : goal.returns-then-room-h
-returns-then-room-h c =
-    c.refused-then-room-h.ensures ∙ sym (given_15 (graph (goal.at.returns-then-room-h c).Start) c.args.log.now c.args.room (off-22 (goal.at.returns-then-room-h c).Else-found-last) c.if-room-h.true)
+pub returns-in-Some-idle : goal.returns-in-Some-idle
+returns-in-Some-idle c =
+    c.refused-in-Some-idle.ensures ∙ sym (given_22 c.args.laid.now.graph c.args.log.now c.args.room (off-21 (goal.at.returns-in-Some-idle c).In_default-first_above) _ (rw c.in-Some-idle.is at (idle (goal.at.returns-in-Some-idle c).After-first_faults-found)))
+
+pub returns-then-room-g : goal.returns-then-room-g
+returns-then-room-g c =
+    rw c.whole.ensures (sym (given_15 c.args.laid.now.graph c.args.log.now c.args.room (off-22 (goal.at.returns-then-room-g c).In_default-idle) c.if-room-g.true))
 
 pub returns : goal.returns
 returns c =
-    sym (all_passed (graph (goal.at.returns c).Start) c.args.log.now c.args.room (off-22 (goal.at.returns c).Else-found-last) c.if-room-h.false)
+    sym (all_passed c.args.laid.now.graph c.args.log.now c.args.room (off-22 (goal.at.returns c).In_default-idle) c.if-room-g.false)

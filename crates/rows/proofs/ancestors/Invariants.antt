@@ -1,11 +1,7 @@
-use Prim.Native.Nat.{◌-◌, ◌≤◌}
 use Rattle.graph.specs.declared.Graph.{Graph}
 use Rattle.rows.specs.Gathered.{Lined}
 use Rattle.rows.proofs.Learning.{Learnt}
 use Rattle.rows.proofs.ancestors.Given as goal
 
 abbrev pub invariant-loop-j : goal.invariant-loop-j
-invariant-loop-j l = (l.j ≤ l.n) × ((g : Graph) (T : Lined g l.order l.n l.pred) → Learnt T l.t l.j)
-
-abbrev pub decreases-loop-j : goal.decreases-loop-j
-decreases-loop-j l = l.n - l.j
+invariant-loop-j l = (g : Graph) (T : Lined g l.order l.n l.pred) → Learnt T l.t l.j

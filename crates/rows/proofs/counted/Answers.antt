@@ -1,7 +1,6 @@
 use mathlib.Core.Path.{ap, ◌∙◌}
-use Prim.Native.Nat.{◌-◌}
 use native.Mathlib.Omega.{arith}
-use Rattle.model.specs.Places.{count, padded}
+use Rattle.model.specs.Places.{count}
 use Rattle.model.proofs.Places.{count-le}
 use Rattle.model.proofs.Tables.{padded-none, padded-more}
 use Rattle.vset.specs.declared.Vset.{Vset}
@@ -10,24 +9,14 @@ use Rattle.rows.specs.Rows.{ones_among}
 use Rattle.rows.proofs.counted.Goals as goal
 
 pub loop-v-init : goal.loop-v-init
-loop-v-init c = (omega arith, padded-none 128 _)
+loop-v-init c = padded-none 128 _
 
 pub overflow_cast-list : goal.overflow_cast-list
 overflow_cast-list c = omega (arith, c.size.ensures, count-le (is_in c.row.result) 128)
-
-pub bounds-list-v : goal.bounds-list-v
-bounds-list-v c = omega (arith, c.loop-v-test.true, c.requires)
 
 pub loop-v-preserved : goal.loop-v-preserved
 unfolding ones_among
 loop-v-preserved c =
     let l = c.loop-v in
-    let q = c.size.ensures ∙ ap (λ (r : Vset). count (is_in r) 128) c.row.ensures in (
-      omega (arith, c.loop-v-test.true),
-      rw (l.invariant.1, q) (padded-more 128 _ l.v (omega (arith, c.loop-v-test.true, c.requires))),
-    )
-
-pub returns : goal.returns
-returns c =
-    let l = c.loop-v in
-    l.invariant.1 ∙ ap (padded 128 _) (omega arith)
+    let q = c.size.ensures ∙ ap (λ (r : Vset). count (is_in r) 128) c.row.ensures in
+    rw (l.invariant, q) (padded-more 128 _ l.v (omega (arith, c.loop-v-test.true, c.requires)))

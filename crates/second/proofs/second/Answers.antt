@@ -1,17 +1,17 @@
+use Rattle.std.proofs.lemmas.Result.{err_from_is_err_and}
 use Rattle.reader.proofs.Laying.{usable, kin_given}
 use Rattle.second.proofs.Entries.{second-accepted, second-refused}
 use Rattle.second.proofs.second.Goals as goal
 
+pub returns-in_err-take_kin : goal.returns-in_err-take_kin
+returns-in_err-take_kin c =
+    let p = err_from_is_err_and c.from_residual.result c.from_residual.ensures.1 in
+    rw (p.1, p.2) (second-refused c.in_err-take_kin.ensures.taken_into)
+
 pub second_of-requires : goal.second_of-requires
 second_of-requires c =
-    let T = c.take_kin-h.ensures in
-    let a = c.in-Accepted.is in
-    record { usable = usable _ _ _ _ _ _ _ _ T.taken_into (λ i. (c.shared_slice_known-1.given i).fits) a; kin = kin_given _ _ _ _ _ _ _ _ T.taken_into T.kin_into a }
+    let T = c.in_ok-take_kin.ensures in
+    record { usable = usable T.taken_into (λ i. (c.shared_slice_known-1.given i).fits); kin = kin_given T.taken_into T.kin_into }
 
-pub returns-in-Refused : goal.returns-in-Refused
-returns-in-Refused c =
-    second-refused _ c.take_kin-h.ensures.taken_into c.nothing.result c.in-Refused.is c.nothing.ensures.answer_value c.nothing.ensures.parts_value
-
-pub returns-in-Accepted : goal.returns-in-Accepted
-returns-in-Accepted c =
-    second-accepted _ c.take_kin-h.ensures.taken_into c.second_of.result c.in-Accepted.is c.second_of.ensures
+pub returns : goal.returns
+returns c = second-accepted _ c.in_ok-take_kin.ensures.taken_into c.second_of.ensures

@@ -1,9 +1,6 @@
-use Prim.Native.Nat.{◌-◌, ◌≤◌}
+use Prim.Native.Nat.{◌≤◌}
 use Rattle.starts.specs.Starts.{start_in}
 use Rattle.starts.proofs.start.Given as goal
 
 abbrev pub invariant-loop-at : goal.invariant-loop-at
-invariant-loop-at l = (l.at ≤ l.edges) × (l.at ≤ start_in l.edge l.edges l.u)
-
-abbrev pub decreases-loop-at : goal.decreases-loop-at
-decreases-loop-at l = l.edges - l.at
+invariant-loop-at l = l.at ≤ start_in l.edge l.edges l.u

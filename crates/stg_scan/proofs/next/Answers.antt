@@ -10,21 +10,9 @@ returns-then-p-text c = rw (← c.skip-p.ensures.0, eq-eqb _ _ c.if-p-text.true)
 pub returns-then-feed : goal.returns-then-feed
 unfolding token_at token_from
 returns-then-feed c =
-    rw (
-      ← c.skip-p.ensures.0,
-      ne_eqb _ _ c.if-p-text.false,
-      ← c.byte.ensures.0,
-      ← c.feed.ensures,
-      c.if-feed.true,
-    ) refl
+    rw (← c.skip-p.ensures.0, ne_eqb _ _ c.if-p-text.false, ← c.feed.ensures, c.if-feed.true) refl
 
 pub returns : goal.returns
 unfolding token_at token_from
 returns c =
-    rw (
-      ← c.skip-p.ensures.0,
-      ne_eqb _ _ c.if-p-text.false,
-      ← c.byte.ensures.0,
-      ← c.feed.ensures,
-      c.if-feed.false,
-    ) c.number.ensures
+    rw (← c.skip-p.ensures.0, ne_eqb _ _ c.if-p-text.false, ← c.feed.ensures, c.if-feed.false) c.number.ensures

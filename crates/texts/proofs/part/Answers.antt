@@ -1,12 +1,6 @@
-use Rattle.texts.proofs.Cutting.{part-there, part_back, part-past}
+use Rattle.std.proofs.Common.{refl}
+use Rattle.texts.proofs.Cutting.{part-got}
 use Rattle.texts.proofs.part.Goals as goal
-use Rattle.texts.proofs.part.Goals.{then-start-end+else-end-t, else-start-end}
-
-pub returns-then-end-t : goal.returns-then-end-t
-returns-then-end-t c = part-there _ _ _ c.if-start-end.true c.if-end-t.true
 
 pub returns : goal.returns
-returns c = elim c.if-start-end.branch [
-  | then-start-end+else-end-t w ↦ part-past _ _ _ w.if-start-end.true w.if-end-t.false
-  | else-start-end w ↦ part_back _ _ _ w.if-start-end.false
-]
+returns c = part-got _ _ _ c.get.result _ _ refl c.get.ensures.lookup.0 c.unwrap_or.ensures

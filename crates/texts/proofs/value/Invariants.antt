@@ -1,11 +1,6 @@
-use mathlib.Core.Path.{◌≡◌}
-use Prim.Native.Nat.{◌-◌, ◌≤◌}
-use lib.ListN.{length}
-use Rattle.texts.proofs.Numbers.{so_far}
+use Rattle.std.proofs.Common.{◌≡◌, ◌<◌}
+use Rattle.texts.specs.Text.{decimal}
 use Rattle.texts.proofs.value.Given as goal
 
-abbrev pub invariant-loop-i : goal.invariant-loop-i
-invariant-loop-i l = (l.i-end ≡ length l.w) × (l.i ≤ l.i-end) × (l.n ≡ so_far l.w l.i)
-
-abbrev pub decreases-loop-i : goal.decreases-loop-i
-decreases-loop-i l = l.i-end - l.i
+abbrev pub invariant-loop-b : goal.invariant-loop-b
+invariant-loop-b l = (l.n ≡ decimal l.w l.b-index) × (l.n < 4294967296)

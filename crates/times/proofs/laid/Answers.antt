@@ -1,21 +1,17 @@
-use borrow.Author.Rules.{rules}
-use native.Mathlib.Omega.{arith}
-use mathlib.Core.Path.{◌≡◌}
-use Prim.Native.Nat.{◌-◌}
-use Rattle.model.proofs.Tables.{padded-none, padded-more}
+use mathlib.Core.Path.{◌≡◌, refl, ◌∙◌}
+use Prim.Native.Nat.{ℕ, ◌-◌}
+use lib.ListN.{drop, replicate}
+use Rattle.std.proofs.lemmas.List.{drop-replicate}
+use Rattle.model.specs.Places.{padded}
+use Rattle.model.proofs.Turns.{as_table}
 use Rattle.times.specs.Times.{times_of}
 use Rattle.times.proofs.laid.Goals as goal
 
-pub loop-v-init : goal.loop-v-init
-loop-v-init c = (search rules, padded-none 128 _)
-
-pub bounds-times-v : goal.bounds-times-v
-bounds-times-v c = omega (arith, c.requires.1)
-
-pub loop-v-preserved : goal.loop-v-preserved
-loop-v-preserved c =
-    let l = c.loop-v in
-    (search rules, rw l.invariant.1 (padded-more 128 (times_of c.args.times.now) l.v (omega (arith, c.requires.0))))
-
 pub returns : goal.returns
-returns c = let l = c.loop-v in let e : l.v ≡ c.args.n = omega arith in rw (← e) l.invariant.1
+unfolding padded
+returns c =
+    let n = c.args.n in
+    let times = c.args.times.now in
+    let laid = c.copy_from_slice.ensures.after ∙ as_table (times_of times) n times c.requires.1 (λ v h. refl) in
+    let zeros : drop {A = ℕ} n (replicate 128 0) ≡ replicate (128 - n) 0 = drop-replicate n 128 0 in
+    rw (laid, zeros) refl

@@ -22,7 +22,7 @@ its s = let p = s.requires in (p.1, p.2, p.3, p.4, p.5)
 
 visited : (c : At-loop-k) (g : Graph) → Given (goal.at.At-loop-k c).Start g
     → Visited (as_model g) c.loop-k.cells c.loop-k.best c.loop-k.depth c.loop-k.k
-visited c g H = c.loop-k.invariant.1 g H.0 H.1 H.2 H.3 H.4
+visited c g H = c.loop-k.invariant g H.0 H.1 H.2 H.3 H.4
 
 among : (c : In-loop-k) (g : Graph) → Given (goal.at.In-loop-k c).Start g → c.loop-k.k < path_count (as_model g)
 among c g H = omega (arith, c.loop-k-test.true, H.4)
@@ -40,7 +40,7 @@ ended : (c : After-descend-depth) (g : Graph) → Given (goal.at.After-descend-d
 ended c g H = c.descend-depth.ensures g H.0 H.1 (among (goal.at.After-descend-depth c).In-loop-k g H) (reached (goal.at.After-descend-depth c).After-rooted-from g H)
 
 pub loop-k-init : goal.loop-k-init
-loop-k-init c = (omega arith, λ g D L S is all. visited_none (as_model g))
+loop-k-init c = λ g D L S is all. visited_none (as_model g)
 
 pub shared-d-requires : goal.shared-d-requires
 shared-d-requires c =
@@ -64,19 +64,12 @@ at-c-requires c =
     let E = ended (goal.at.at-c-requires c).After-descend-depth c.requires.0 (its (goal.at.at-c-requires c).Start) in
     omega (arith, kept-few (its (goal.at.at-c-requires c).Start).0 c.descend-depth.new.cells c.descend-depth.result E.reached.kept.stands, E.reached.some)
 
-pub overflow_add-k : goal.overflow_add-k
-overflow_add-k c =
-    omega (arith, among (goal.at.overflow_add-k c).In-loop-k c.requires.0 (its (goal.at.overflow_add-k c).Start), (its (goal.at.overflow_add-k c).Start).0.few)
-
 pub loop-k-preserved : goal.loop-k-preserved
 loop-k-preserved c =
-    let l = c.loop-k in (
-      omega (arith, c.loop-k-test.true),
-      λ g D L S is all. visited_more (visited (goal.at.loop-k-preserved c).At-loop-k g (D, L, S, is, all)) (ended (goal.at.loop-k-preserved c).After-descend-depth g (D, L, S, is, all)) (rw c.at-c.ensures at c.larger-best.ensures),
-    )
+    let l = c.loop-k in λ g D L S is all. visited_more (visited (goal.at.loop-k-preserved c).At-loop-k g (D, L, S, is, all)) (ended (goal.at.loop-k-preserved c).After-descend-depth g (D, L, S, is, all)) (rw c.at-c.ensures at c.max-best.ensures)
 
 pub returns : goal.returns
 returns c g D L S is all =
     let l = c.loop-k in
-    let e : l.k ≡ path_count (as_model g) = omega (arith, l.invariant.0, c.loop-k-test.false) in
-    visited_all D (rw e at (l.invariant.1 g D L S is all))
+    let e : l.k ≡ path_count (as_model g) = omega (arith, all) in
+    visited_all D (rw e at (l.invariant g D L S is all))

@@ -10,8 +10,4 @@ use Rattle.visit.proofs.largest.Given as goal
 
 abbrev pub invariant-loop-k : goal.invariant-loop-k
 invariant-loop-k l =
-    (l.k ≤ l.count)
-    × ((g : Graph) → Ground g l.ways l.rows l.kind l.wcet l.share → Laid g l.edge l.start → Sources g l.led → l.n ≡ g.n → l.count ≡ path_count (as_model g) → Visited (as_model g) l.cells l.best l.depth l.k)
-
-abbrev pub decreases-loop-k : goal.decreases-loop-k
-decreases-loop-k l = l.count - l.k
+    (g : Graph) → Ground g l.ways l.rows l.kind l.wcet l.share → Laid g l.edge l.start → Sources g l.led → l.n ≡ g.n → l.count ≡ path_count (as_model g) → Visited (as_model g) l.cells l.best l.depth l.k

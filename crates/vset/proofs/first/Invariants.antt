@@ -5,7 +5,4 @@ use Rattle.vset.proofs.Rank.{firsts, lasts}
 use Rattle.vset.proofs.first.Given as goal
 
 abbrev pub invariant-loop-j : goal.invariant-loop-j
-invariant-loop-j l = (l.j ≤ l.n) × Members l.got (firsts (is_in l.initial.rest) l.j) × ((k : ℕ) → is_in l.rest k ≡ lasts (is_in l.initial.rest) l.j k)
-
-abbrev pub decreases-loop-j : goal.decreases-loop-j
-decreases-loop-j l = l.n - l.j
+invariant-loop-j l = Members l.got (firsts (is_in l.initial.rest) l.j) × ((k : ℕ) → is_in l.rest k ≡ lasts (is_in l.initial.rest) l.j k)

@@ -1,7 +1,7 @@
 use mathlib.Core.Path.{◌≡◌}
 use mathlib.Core.Bool.{Bool, ◌&&◌}
 use mathlib.Core.List.{List}
-use Prim.Native.Nat.{ℕ, ◌-◌, ◌≤◌}
+use Prim.Native.Nat.{ℕ}
 use lib.Dec.{eqb}
 use lib.ListN.{get_or}
 use Rattle.model.specs.Places.{count, every}
@@ -14,7 +14,4 @@ abbrev pub right : List (List ℕ) → List ℕ → (ℕ → Bool) → ℕ → B
 right p w q v = eqb (get_or w v 0) (count (λ u. is_in (row_of p v) u && q u) 128)
 
 abbrev pub invariant-loop-v : goal.invariant-loop-v
-invariant-loop-v l = (l.v ≤ 128) × (l.ok ≡ every (right l.pred l.waiting (is_in l.some)) l.v)
-
-abbrev pub decreases-loop-v : goal.decreases-loop-v
-decreases-loop-v l = 128 - l.v
+invariant-loop-v l = l.ok ≡ every (right l.pred l.waiting (is_in l.some)) l.v

@@ -1,12 +1,8 @@
 use mathlib.Core.Bool.{◌&&◌}
-use Prim.Native.Nat.{◌-◌, ◌≤◌}
 use lib.Dec.{ltb}
 use lib.ListN.{get_or}
 use Rattle.vset.specs.Members.{Members}
 use Rattle.waiting.proofs.held.Given as goal
 
 abbrev pub invariant-loop-v : goal.invariant-loop-v
-invariant-loop-v l = (l.v ≤ 128) × Members l.got (λ k. ltb k l.v && ltb 0 (get_or l.waiting k 0))
-
-abbrev pub decreases-loop-v : goal.decreases-loop-v
-decreases-loop-v l = 128 - l.v
+invariant-loop-v l = Members l.got (λ k. ltb k l.v && ltb 0 (get_or l.waiting k 0))

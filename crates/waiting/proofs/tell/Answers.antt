@@ -1,10 +1,9 @@
-use mathlib.Core.Path.{◌≡◌, refl, subst}
-use Prim.Native.Nat.{ℕ, ◌-◌, ◌<◌}
+use mathlib.Core.Path.{refl}
+use Prim.Native.Nat.{◌<◌}
 use native.Mathlib.Omega.{arith}
 use lib.ListN.{get_or}
 use Rattle.vset.specs.Members.{is_in}
 use Rattle.vset.proofs.Words.{itself}
-use Rattle.waiting.specs.Waiting.{Told}
 use Rattle.starts.specs.Starts.{leads_to}
 use Rattle.waiting.proofs.Telling.{told_none, told_more, still_counted}
 use Rattle.waiting.proofs.tell.Goals as goal
@@ -13,7 +12,7 @@ use Rattle.waiting.proofs.tell.Goals.{In-loop-i}
 pub loop-i-init : goal.loop-i-init
 loop-i-init c =
     let a = c.args in
-    (omega arith, (c.requires.start_le_end.0, told_none a.edge.now a.start a.waiting.now (is_in a.busy) a.s c.requires.waiting_len c.requires.members (itself a.s.done (omega arith) (omega arith) (is_in a.s.done) (λ k. refl))))
+    told_none a.edge.now a.start a.waiting.now (is_in a.busy) a.s c.requires.waiting_len c.requires.members (itself a.s.done (omega arith) (omega arith) (is_in a.s.done) (λ k. refl))
 
 known : (c : In-loop-i) → leads_to c.args.edge.now c.loop-i.i < 128
 known c = c.requires.by_index c.loop-i.i (omega (arith, c.loop-i-test.true))
@@ -23,13 +22,7 @@ some : (c : In-loop-i) → 0 < get_or c.loop-i.waiting (leads_to c.args.edge.now
 some c =
     let l = c.loop-i in
     let a = c.args in
-    still_counted a.edge.now a.start l.i l.invariant.0 a.waiting.now l.waiting l.invariant.1.1.less a.end (omega (arith, c.loop-i-test.true)) (c.requires.by_index_2 (leads_to a.edge.now l.i) (known c))
-
-pub offset_bounds-edge-i : goal.offset_bounds-edge-i
-offset_bounds-edge-i c = omega (arith, c.requires.start_le_end.1)
-
-pub bounds-edge-i : goal.bounds-edge-i
-bounds-edge-i c = omega (arith, c.requires.start_le_end.1)
+    still_counted a.edge.now a.start l.i (omega arith) a.waiting.now l.waiting l.invariant.less a.end (omega (arith, c.loop-i-test.true)) (c.requires.by_index_2 (leads_to a.edge.now l.i) (known c))
 
 pub release-told-requires : goal.release-told-requires
 release-told-requires c =
@@ -37,18 +30,8 @@ release-told-requires c =
     let h = known (goal.at.release-told-requires c).In-loop-i in
     rw c.to.ensures (h, some (goal.at.release-told-requires c).In-loop-i)
 
-pub overflow_add-i : goal.overflow_add-i
-overflow_add-i c = omega (arith, c.requires.start_le_end.1)
-
 pub loop-i-preserved : goal.loop-i-preserved
 loop-i-preserved c =
     let l = c.loop-i in
     let a = c.args in
-    (omega arith, (omega arith, told_more a.edge.now a.start a.waiting.now (is_in a.busy) a.s l.i l.waiting l.told l.invariant.1.1 l.invariant.0 (known (goal.at.loop-i-preserved c).In-loop-i) (some (goal.at.loop-i-preserved c).In-loop-i) c.release-told.new.waiting c.release-told.result (rw c.to.ensures at c.release-told.ensures)))
-
-pub returns : goal.returns
-returns c =
-    let l = c.loop-i in
-    let a = c.args in
-    let e : l.i ≡ a.end = omega arith in
-    subst (λ (x : ℕ). Told a.edge.now a.start x a.waiting.now (is_in a.busy) a.s l.waiting l.told) e l.invariant.1.1
+    told_more a.edge.now a.start a.waiting.now (is_in a.busy) a.s l.i l.waiting l.told l.invariant (omega arith) (known (goal.at.loop-i-preserved c).In-loop-i) (some (goal.at.loop-i-preserved c).In-loop-i) c.release-told.new.waiting c.release-told.result (rw c.to.ensures at c.release-told.ensures)

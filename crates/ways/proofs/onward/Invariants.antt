@@ -1,12 +1,10 @@
 use mathlib.Core.Path.{◌≡◌}
-use Prim.Native.Nat.{◌-◌, ◌≤◌, min}
+use Prim.Native.Nat.{min}
 use lib.ListN.{get_or}
 use Rattle.model.specs.Places.{sum}
-use Rattle.summary.specs.Row.{many, nth}
+use Rattle.summary.specs.Row.{nth}
 use Rattle.ways.proofs.onward.Given as goal
 
 abbrev pub invariant-loop-k : goal.invariant-loop-k
-invariant-loop-k l = (l.k ≤ many l.start l.u) × (l.total ≡ min 4097 (sum (λ i. get_or l.ways (nth l.edge l.start l.u i) 0) l.k))
-
-abbrev pub decreases-loop-k : goal.decreases-loop-k
-decreases-loop-k l = many l.start l.u - l.k
+invariant-loop-k l =
+    l.total ≡ min 4097 (sum (λ i. get_or l.ways (nth l.edge l.start l.u i) 0) l.k)

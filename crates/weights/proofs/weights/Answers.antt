@@ -1,9 +1,8 @@
 use mathlib.Core.Path.{◌≡◌, refl, ap, ◌∙◌}
 use mathlib.Core.List.{List}
-use Prim.Native.Nat.{ℕ, ◌-◌, ◌*◌, ◌≤◌, ◌<◌}
+use Prim.Native.Nat.{ℕ, ◌*◌, ◌≤◌, ◌<◌}
 use native.Mathlib.Nat.{mul-le-mul_left, mul-le-mul_right}
 use native.Mathlib.Omega.{arith}
-use borrow.Author.Rules.{rules}
 use lib.ListN.{get_or}
 use Rattle.model.specs.Places.{padded}
 use Rattle.model.specs.Bounds.{PARTS}
@@ -20,7 +19,7 @@ pub rates-rate-requires : goal.rates-rate-requires
 rates-rate-requires c = record { kinds_bound = c.requires.few_kinds; by_index = c.requires.some_core }
 
 pub loop-v-init : goal.loop-v-init
-loop-v-init c = (search rules, padded-none 128 _)
+loop-v-init c = padded-none 128 _
 
 -- the kind of v, its WCET, and the rate
 kind-of : (c : In-loop-v) → get_or c.args.kind.now c.loop-v.v 0 < c.args.kinds
@@ -66,13 +65,13 @@ unfolding weighted
 loop-v-preserved c =
     let l = c.loop-v in
     let a = c.args in
-    (search rules, filled 128 (weighted a.kind.now a.wcet.now c.rates-rate.result) l.v _ _ (omega arith) l.invariant.1 refl)
+    filled 128 (weighted a.kind.now a.wcet.now c.rates-rate.result) l.v _ _ (omega arith) l.invariant refl
 
 pub returns : goal.returns
 unfolding weighted weight_by
 returns c =
     let a = c.args in
     let e : c.loop-v.v ≡ a.n = omega arith in
-    c.loop-v.invariant.1
+    c.loop-v.invariant
     ∙ ap (padded 128 _) e
     ∙ padded-same 128 _ _ a.n (λ u l. ap (λ (x : ℕ). get_or a.wcet.now u 0 * x) (rated c.rates-rate.result a.by a.cores.now a.kinds (get_or a.kind.now u 0) c.rates-rate.ensures (c.requires.kind_known u l)))

@@ -1,10 +1,13 @@
-use mathlib.Core.Path.{refl, sym, ◌∙◌}
+use mathlib.Core.Path.{refl, sym}
+use Rattle.std.proofs.lemmas.Result.{err_from_is_err_and}
 use Rattle.writer.proofs.judged.Goals as goal
 
-pub returns-in-Accepted : goal.returns-in-Accepted
-returns-in-Accepted c =
-    let p = c.copied.ensures in
-    (rw (sym c.judge-answer.ensures ∙ c.in-Accepted.is) p.0, p.1)
+pub returns-in_err-judge : goal.returns-in_err-judge
+returns-in_err-judge c =
+    let p = err_from_is_err_and c.from_residual.result c.from_residual.ensures.1 in
+    (rw (p.1, p.2, ← c.in_err-judge.ensures) refl, rw p.1 refl)
 
-pub returns-in-Refused : goal.returns-in-Refused
-returns-in-Refused c = (rw (sym c.judge-answer.ensures ∙ c.in-Refused.is), refl)
+pub returns : goal.returns
+returns c =
+    let p = c.copied.ensures in
+    (rw (← c.in_ok-judge.ensures) p.0, p.1)

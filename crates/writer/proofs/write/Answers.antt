@@ -13,16 +13,16 @@ use Rattle.writer.proofs.write.Goals as goal
 
 pub returns-then-kinds-wcets : goal.returns-then-kinds-wcets
 unfolding wrote_of room_after
-returns-then-kinds-wcets c = (rw (ne_eqb _ _ c.if-kinds-wcets.true), rw (ne_eqb _ _ c.if-kinds-wcets.true))
+returns-then-kinds-wcets c = (rw (c.whole.ensures, ne_eqb _ _ c.if-kinds-wcets.true), rw (ne_eqb _ _ c.if-kinds-wcets.true))
 
 pub slice_bounds-judged-end : goal.slice_bounds-judged-end
 slice_bounds-judged-end c =
-    let n : ℕ = c.least-a.result + c.least-b.result + c.least-e.result in
+    let n : ℕ = c.min-a.result + c.min-b.result + c.min-e.result in
     omega (arith, length-take (8 * n) c.image.new.t, c.image.ensures.1)
 
 pub judged-requires : goal.judged-requires
 judged-requires c =
-    let n : ℕ = c.least-a.result + c.least-b.result + c.least-e.result in
+    let n : ℕ = c.min-a.result + c.min-b.result + c.min-e.result in
     omega (arith, length-take (8 * n) c.image.new.t, c.image.ensures.1)
 
 pub returns : goal.returns
@@ -30,9 +30,9 @@ unfolding part seen
 returns c =
     let s = c.args in
     let i = c.image in
-    let x = c.least-a in
-    let y = c.least-b in
-    let z = c.least-e in
+    let x = c.min-a in
+    let y = c.min-b in
+    let z = c.min-e in
     let g : Lists = lists s.cores.now s.kinds.now s.wcets.now s.edges.now in
     let n : ℕ = x.result + y.result + z.result in
     let f : take (8 * n) i.new.t ≡ seen g =

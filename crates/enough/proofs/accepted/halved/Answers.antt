@@ -7,7 +7,7 @@ pub meets-requires : goal.meets-requires
 meets-requires c =
     let p = c.requires in
     let b = p.between.0 in
-    record { usable = p.usable; holds = p.holds; s_lt_kinds = (p.s_lt_kinds, omega (arith, b.least, p.between.1), omega (arith, b.most, p.between.1)) }
+    record { usable = p.usable; s_lt_kinds = (p.s_lt_kinds, omega (arith, b.least, p.between.1), omega (arith, b.most, p.between.1)) }
 
 pub returns-then-meets : goal.returns-then-meets
 returns-then-meets c =

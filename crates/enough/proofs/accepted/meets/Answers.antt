@@ -4,7 +4,7 @@ use lib.ListN.{set}
 use borrow.Author.Tests.{leb-true, le-leb}
 use Rattle.model.specs.Bounds.{vol, volume}
 use Rattle.graph.specs.Model.{as_model}
-use Rattle.reader.specs.Laid.{graph_in}
+use Rattle.reader.specs.Laid.{on_cores}
 use Rattle.bounds.proofs.Weighing.{small-stages}
 use Rattle.enough.proofs.Meeting.{meets-within}
 use Rattle.enough.proofs.Stored.{stored_model, stored_usable}
@@ -16,13 +16,13 @@ volume-shares-requires c = let p = c.requires in small-stages (stored_usable p.u
 
 -- what the code adds up is the volume
 shares : (c : After-volume-shares)
-    → c.volume-shares.result.0 ≡ volume (as_model (graph_in c.args.h (set c.args.cores.now c.args.s c.args.m) c.args.kind.now c.args.wcet.now c.args.edge.now))
+    → c.volume-shares.result.0 ≡ volume (as_model (on_cores c.args.laid.now (set c.args.laid.now.graph.cores c.args.s c.args.m)).graph)
 unfolding vol volume as_model
 shares c = c.volume-shares.ensures.result_value
 
 pub new_of-new-requires : goal.new_of-new-requires
 new_of-new-requires c =
-    let p = c.requires in record { usable = stored_usable p.usable _ _ p.s_lt_kinds.0 p.s_lt_kinds.1 p.s_lt_kinds.2; holds = p.holds; shares_value = (shares (goal.at.new_of-new-requires c).After-volume-shares, c.volume-shares.ensures.result_bound) }
+    let p = c.requires in record { usable = stored_usable p.usable _ _ p.s_lt_kinds.0 p.s_lt_kinds.1 p.s_lt_kinds.2; shares_value = (shares (goal.at.new_of-new-requires c).After-volume-shares, c.volume-shares.ensures.result_bound) }
 
 pub returns : goal.returns
 returns c =

@@ -1,5 +1,4 @@
 use mathlib.Core.Path.{◌≡◌}
-use Prim.Native.Nat.{◌-◌}
 use native.Mathlib.Omega.{arith}
 use Rattle.enough.proofs.Halving.{all_sixteen}
 use Rattle.enough.proofs.accepted.smallest.Goals as goal
@@ -8,7 +7,7 @@ pub loop-span-init : goal.loop-span-init
 loop-span-init c = all_sixteen
 
 pub halved-span-requires : goal.halved-span-requires
-halved-span-requires c = let p = c.requires in record { usable = p.usable; holds = p.holds; s_lt_kinds = p.s_lt_kinds; between = (c.loop-span.invariant, c.loop-span-test.true) }
+halved-span-requires c = let p = c.requires in record { usable = p.usable; s_lt_kinds = p.s_lt_kinds; between = (c.loop-span.invariant, c.loop-span-test.true) }
 
 pub loop-span-smaller : goal.loop-span-smaller
 loop-span-smaller c = omega (arith, c.halved-span.ensures.low_bound)

@@ -1,14 +1,13 @@
 use mathlib.Core.Path.{◌≡◌}
-use Prim.Native.Nat.{◌-◌, ◌<◌}
+use Prim.Native.Nat.{◌<◌}
 use native.Mathlib.Omega.{arith}
 use lib.ListN.{get_or}
 use Rattle.gaining.proofs.Tops.{top-none, top-more}
-use borrow.Author.Rules.{rules}
 use Rattle.gaining.proofs.passing.anew.Goals as goal
 use Rattle.gaining.proofs.passing.anew.Goals.{In-loop-q}
 
 pub loop-q-init : goal.loop-q-init
-loop-q-init c = (search rules, top-none _ _ _ _)
+loop-q-init c = top-none _ _ _ _
 
 -- the vertex at place q
 known : (c : In-loop-q) → get_or c.args.order.now c.loop-q.q 0 < 128
@@ -26,10 +25,10 @@ bounds-sums-x c = omega (arith, known (goal.at.bounds-sums-x c).In-loop-q)
 pub loop-q-preserved : goal.loop-q-preserved
 loop-q-preserved c =
     let l = c.loop-q in
-    (search rules, top-more _ _ l.q _ l.top c.higher-top.result l.invariant.0.0 c.higher-top.ensures l.invariant.1)
+    top-more _ _ l.q _ l.top c.higher-top.result (omega arith) c.higher-top.ensures l.invariant
 
 pub returns : goal.returns
 returns c =
     let l = c.loop-q in
     let e : l.q ≡ c.args.n = omega arith in
-    rw e at l.invariant.1
+    rw e at l.invariant

@@ -1,11 +1,7 @@
-use Prim.Native.Nat.{◌-◌, ◌≤◌}
-use Rattle.summary.specs.Row.{many, Told}
+use Rattle.summary.specs.Row.{Told}
 use Rattle.gaining.specs.Passing.{onward, Led}
 use Rattle.gaining.proofs.passing.lead.Given as goal
 
 abbrev pub invariant-loop-k : goal.invariant-loop-k
 invariant-loop-k l =
-    (l.k ≤ many l.start l.u) × (Told l.edge l.start (onward l.starting l.sum) l.u l.k l.initial.best l.best × Led l.edge l.start (onward l.starting l.sum) l.u l.k l.initial.next l.next)
-
-abbrev pub decreases-loop-k : goal.decreases-loop-k
-decreases-loop-k l = many l.start l.u - l.k
+    Told l.edge l.start (onward l.starting l.sum) l.u l.k l.initial.best l.best × Led l.edge l.start (onward l.starting l.sum) l.u l.k l.initial.next l.next

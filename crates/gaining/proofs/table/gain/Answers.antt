@@ -5,4 +5,4 @@ use Rattle.gaining.proofs.table.gain.Goals as goal
 pub returns : goal.returns
 returns c =
     let a = c.args in
-    ap₂ (λ (x y : ℕ). a.len - x + (y - a.weight)) c.larger-rest.ensures c.of_ticks-parts.ensures
+    ap₂ (λ (x y : ℕ). a.len - x + (y - a.weight)) c.max-rest.ensures c.of_ticks-parts.ensures

@@ -1,10 +1,9 @@
 use mathlib.Core.Path.{◌≡◌}
-use Prim.Native.Nat.{◌-◌, ◌<◌}
+use Prim.Native.Nat.{◌<◌}
 use native.Mathlib.Omega.{arith}
 use lib.ListN.{get_or}
 use Rattle.summary.proofs.Along.{few, vertex, row}
 use Rattle.gaining.proofs.Gaining.{ends-small, starts-small, Swept, swept_none, swept_sum, fits, swept_more, swept_done}
-use borrow.Author.Rules.{rules}
 use Rattle.gaining.proofs.table.gains.Goals as goal
 use Rattle.gaining.proofs.table.gains.Goals.{In-loop-p}
 
@@ -14,7 +13,7 @@ anew-top-requires c =
     record { from_le_n = (omega arith, omega (arith, few T, T.vertices)); by_index = λ q l. omega (arith, vertex T q l, few T) }
 
 pub loop-p-init : goal.loop-p-init
-loop-p-init c = (omega arith, λ g M. swept_none M _ c.anew-top.ensures)
+loop-p-init c = (λ g M. swept_none M _ c.anew-top.ensures)
 
 -- the vertex at place p
 known : (c : In-loop-p)
@@ -27,7 +26,7 @@ small c = omega (arith, known c, few c.requires.1.weighed)
 -- what the pass has there, of the graph that there is
 so_far : (c : In-loop-p)
     → Swept c.requires.1 c.loop-p.p c.loop-p.best c.loop-p.top c.loop-p.ended c.loop-p.list
-so_far c = let p = c.requires in c.loop-p.invariant.1 p.0 p.1
+so_far c = let p = c.requires in c.loop-p.invariant p.0 p.1
 
 pub bounds-order-p : goal.bounds-order-p
 bounds-order-p c = let T = c.requires.1.weighed in omega (arith, few T, T.vertices)
@@ -68,7 +67,7 @@ pub gain-requires : goal.gain-requires
 gain-requires c =
     let l = c.loop-p in
     let M = c.requires.1 in
-    rw (c.larger-past.ensures, swept_sum M l.p c.loop-p-test.true _ _ _ l.list (so_far (goal.at.gain-requires c).In-loop-p))
+    rw (c.max-past.ensures, swept_sum M l.p c.loop-p-test.true _ _ _ l.list (so_far (goal.at.gain-requires c).In-loop-p))
     (fits M _ c.anew-top.ensures l.p c.loop-p-test.true _ _ _ _ (so_far (goal.at.gain-requires c).In-loop-p) _ c.beyond-next.ensures)
 
 pub offset_bounds-list-u-in-loop-p : goal.offset_bounds-list-u-in-loop-p
@@ -82,22 +81,14 @@ lead-top-requires c =
     let l = c.loop-p in
     let M = c.requires.1 in record { row = row M.weighed _ (known (goal.at.lead-top-requires c).In-loop-p); best_len = (so_far (goal.at.lead-top-requires c).In-loop-p).size; sum_bound = rw (swept_sum M l.p c.loop-p-test.true _ _ _ l.list (so_far (goal.at.lead-top-requires c).In-loop-p)) (ends-small M _); by_index = starts-small M }
 
-pub overflow_add-p : goal.overflow_add-p
-overflow_add-p c =
-    let T = c.requires.1.weighed in
-    omega (arith, c.loop-p-test.true, few T, T.vertices)
-
 pub loop-p-preserved : goal.loop-p-preserved
 loop-p-preserved c =
-    let l = c.loop-p in (
-      search rules,
-      λ g M. let q = swept_sum M l.p c.loop-p-test.true _ _ _ l.list (l.invariant.1 g M) in
-          swept_more M _ c.anew-top.ensures l.p c.loop-p-test.true _ _ _ _ (l.invariant.1 g M) _ c.beyond-next.ensures _
-          (rw q at c.lead-top.ensures.told) _ (rw q at c.lead-top.ensures.led) _ (rw q at c.larger-ended.ensures) _ (rw (c.larger-past.ensures, q) at c.gain.ensures),
-    )
+    let l = c.loop-p in λ g M. let q = swept_sum M l.p c.loop-p-test.true _ _ _ l.list (l.invariant g M) in
+    swept_more M _ c.anew-top.ensures l.p c.loop-p-test.true _ _ _ _ (l.invariant g M) _ c.beyond-next.ensures _
+    (rw q at c.lead-top.ensures.told) _ (rw q at c.lead-top.ensures.led) _ (rw q at c.max-ended.ensures) _ (rw (c.max-past.ensures, q) at c.gain.ensures)
 
 pub returns : goal.returns
 returns c g M =
     let l = c.loop-p in
     let e : l.p ≡ c.args.n = omega arith in
-    swept_done M _ _ _ l.list (rw e at (l.invariant.1 g M))
+    swept_done M _ _ _ l.list (rw e at (l.invariant g M))

@@ -1,4 +1,3 @@
-use Prim.Native.Nat.{◌-◌, ◌≤◌}
 use Rattle.graph.specs.declared.Graph.{Graph}
 use Rattle.gaining.specs.Gaining.{Gainable}
 use Rattle.gaining.proofs.Gaining.{Swept}
@@ -6,8 +5,4 @@ use Rattle.gaining.proofs.table.gains.Given as goal
 
 abbrev pub invariant-loop-p : goal.invariant-loop-p
 invariant-loop-p l =
-    (l.p ≤ l.n)
-    × ((g : Graph) (M : Gainable g l.edge l.start l.order l.n l.weight l.wcet (record { ending = l.initial.list; starting = l.starting })) → Swept M l.p l.best l.top l.ended l.list)
-
-abbrev pub decreases-loop-p : goal.decreases-loop-p
-decreases-loop-p l = l.n - l.p
+    (g : Graph) (M : Gainable g l.edge l.start l.order l.n l.weight l.wcet (record { ending = l.initial.list; starting = l.starting })) → Swept M l.p l.best l.top l.ended l.list

@@ -7,9 +7,9 @@ use Rattle.gains.proofs.accepted.gains_of.Goals as goal
 
 pub returns-then-out-n : goal.returns-then-out-n
 unfolding as_model
-returns-then-out-n c = narrow (omega arith)
+returns-then-out-n c = rw c.whole.ensures (narrow (omega arith))
 
 pub returns : goal.returns
 unfolding as_model
 returns c =
-    gains_handed _ c.args.h.n refl (omega arith) c.table_of-gain.ensures c.hand_over.ensures
+    gains_handed _ c.args.laid.now.graph.n refl (omega arith) (omega arith) c.table_of-gain.ensures c.hand_over.ensures

@@ -1,5 +1,4 @@
 use Rattle.graph.specs.Model.{as_model}
-use Rattle.reader.specs.Laid.{graph_in}
 use Rattle.summary.specs.Tables.{Tables}
 use Rattle.bounds.proofs.Weighing.{small-stages}
 use Rattle.gaining.proofs.Accepted.{usable_weighed, usable_gainable}
@@ -12,8 +11,8 @@ scaled-weight-requires c = small-stages c.requires.accepted
 pub afresh-summary-requires : goal.afresh-summary-requires
 afresh-summary-requires c = (_, usable_weighed c.requires c.scaled-weight.ensures)
 
--- the summary of the graph that the lists are
-summed : (c : After-afresh-summary) → Tables (as_model (graph_in c.args.h c.args.cores.now c.args.kind.now c.args.wcet.now c.args.edge.now)) c.scaled-weight.result c.afresh-summary.result
+-- the summary of the graph that was laid
+summed : (c : After-afresh-summary) → Tables (as_model c.args.laid.now.graph) c.scaled-weight.result c.afresh-summary.result
 summed c = c.afresh-summary.ensures _ (usable_weighed c.requires c.scaled-weight.ensures)
 
 pub gains-requires : goal.gains-requires

@@ -12,17 +12,17 @@ use Rattle.logs.proofs.lent.hand_over.Goals.{At-loop-k}
 
 -- the room stays as long as it is
 same : (c : At-loop-k) → length c.loop-k.out ≡ length c.args.out.now
-same c = ap length c.loop-k.invariant.1 ∙ handed_length _ _ c.loop-k.k (omega (arith, c.loop-k.invariant.0, c.requires.m_bound.1))
+same c = ap length c.loop-k.invariant ∙ handed_length _ _ c.loop-k.k (omega (arith, c.requires.m_bound.1))
 
 pub loop-k-init : goal.loop-k-init
-loop-k-init c = (search rules, handed_none _ _)
+loop-k-init c = handed_none _ _
 
 pub record-r-requires : goal.record-r-requires
 record-r-requires c = c.requires.by_index c.loop-k.k c.loop-k-test.true
 
 pub slice_bounds-copy-count : goal.slice_bounds-copy-count
 slice_bounds-copy-count c =
-    omega (arith, same (goal.at.slice_bounds-copy-count c).At-loop-k, c.loop-k.invariant.0, c.requires.m_bound.1)
+    omega (arith, same (goal.at.slice_bounds-copy-count c).At-loop-k, c.requires.m_bound.1)
 
 pub slice_bounds-copy-start : goal.slice_bounds-copy-start
 slice_bounds-copy-start c = let q = slice_bounds-copy-count c in search rules
@@ -51,7 +51,7 @@ loop-k-preserved c =
     let r = c.record-r in
     let t = c.loop-k-test.true in
     let y = rw (r.ensures, eight (f l.k)) at c.copy.ensures.after in
-    (search rules, rw (y, same (goal.at.loop-k-preserved c).At-loop-k, l.invariant.1) (handed_more f c.args.out.now l.k (omega (arith, c.requires.m_bound.1))))
+    rw (y, same (goal.at.loop-k-preserved c).At-loop-k, l.invariant) (handed_more f c.args.out.now l.k (omega (arith, c.requires.m_bound.1)))
 
 pub shape_of-out : goal.shape_of-out
 shape_of-out c = same (goal.at.shape_of-out c).At-loop-k
@@ -59,5 +59,5 @@ shape_of-out c = same (goal.at.shape_of-out c).At-loop-k
 pub returns : goal.returns
 returns c =
     let l = c.loop-k in
-    let e : l.k ≡ c.args.m = omega (arith, l.invariant.0) in
-    rw (← e) l.invariant.1
+    let e : l.k ≡ c.args.m = omega arith in
+    rw (← e) l.invariant

@@ -8,7 +8,5 @@ use Rattle.recorded.specs.LogOf.{bytes_of}
 use Rattle.logs.proofs.lent.hand_over.Given as goal
 
 abbrev pub invariant-loop-k : goal.invariant-loop-k
-invariant-loop-k l = (l.k ≤ l.m) × (l.out ≡ bytes_of (table (place l.keys) l.k) ++ drop (8 * l.k) l.initial.out)
-
-abbrev pub decreases-loop-k : goal.decreases-loop-k
-decreases-loop-k l = l.m - l.k
+invariant-loop-k l =
+    l.out ≡ bytes_of (table (place l.keys) l.k) ++ drop (8 * l.k) l.initial.out

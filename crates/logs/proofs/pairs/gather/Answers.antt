@@ -13,10 +13,10 @@ use Rattle.logs.proofs.pairs.gather.Goals.{In-loop-v}
 -- what is required of the vertex that is looked at
 known : (c : In-loop-v) → let s = c.args in let v = c.loop-v.v in
     (times_of s.times.now v ≤ place s.finishes.now v) × (place s.finishes.now v ≤ 128000000)
-known c = c.requires.by_index c.loop-v.v c.loop-v-test.true
+known c = c.requires.by_index c.loop-v.v (omega (arith, c.requires.n_bound.1))
 
 pub loop-v-init : goal.loop-v-init
-loop-v-init c = (search rules, gathered_none _ _ _ c.requires.n_bound.2)
+loop-v-init c = gathered_none _ _ _ c.requires.n_bound.2
 
 pub overflow_cast-time : goal.overflow_cast-time
 overflow_cast-time c = let k = known (goal.at.overflow_cast-time c).In-loop-v in omega arith
@@ -41,16 +41,13 @@ overflow_sub-keys c = let k = known (goal.at.overflow_sub-keys c).In-loop-v in o
 
 pub loop-v-preserved : goal.loop-v-preserved
 loop-v-preserved c =
-    let l = c.loop-v in (
-      search rules,
-      elim c.if-time-gt0.branch [
-        | then-time-gt0 z ↦ rw (z.keys-is, z.m-is) (gathered-more _ _ l.v l.m l.keys l.invariant.1 (omega (arith, c.requires.n_bound.0)) z.if-time-gt0.true (known (goal.at.loop-v-preserved c).In-loop-v).0)
-        | else-time-gt0 z ↦ rw (z.keys-is, z.m-is) (gathered-skip _ _ l.v l.m l.keys l.invariant.1 (omega (arith, z.if-time-gt0.false)))
-      ],
-    )
+    let l = c.loop-v in elim c.if-time-gt0.branch [
+      | then-time-gt0 z ↦ rw (z.keys-is, z.m-is) (gathered-more _ _ l.v l.m l.keys l.invariant (omega (arith, c.requires.n_bound.0)) z.if-time-gt0.true (known (goal.at.loop-v-preserved c).In-loop-v).0)
+      | else-time-gt0 z ↦ rw (z.keys-is, z.m-is) (gathered-skip _ _ l.v l.m l.keys l.invariant (omega (arith, z.if-time-gt0.false)))
+    ]
 
 pub returns : goal.returns
 returns c =
     let l = c.loop-v in
-    let q : l.v ≡ c.args.n = omega (arith, l.invariant.0) in
-    rw (← q) l.invariant.1
+    let q : l.v ≡ c.args.n = omega (arith, c.requires.n_bound.1) in
+    rw (← q) l.invariant

@@ -5,7 +5,5 @@ use Rattle.logs.specs.Keys.{Gathered}
 use Rattle.logs.proofs.pairs.gather.Given as goal
 
 abbrev pub invariant-loop-v : goal.invariant-loop-v
-invariant-loop-v l = (l.v ≤ l.n) × Gathered (times_of l.times) (place l.finishes) l.v l.m l.keys
-
-abbrev pub decreases-loop-v : goal.decreases-loop-v
-decreases-loop-v l = l.n - l.v
+invariant-loop-v l =
+    Gathered (times_of l.times) (place l.finishes) l.v l.m l.keys

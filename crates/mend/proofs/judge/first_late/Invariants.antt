@@ -1,4 +1,4 @@
-use Prim.Native.Nat.{ℕ, ◌≤◌, ◌<◌, ◌-◌}
+use Prim.Native.Nat.{ℕ, ◌<◌}
 use mathlib.Core.Path.{◌≡◌}
 use mathlib.Core.Bool.{false}
 use Rattle.model.specs.Places.{largest}
@@ -7,7 +7,4 @@ use Rattle.graph.specs.Rules.{rule3}
 use Rattle.mend.proofs.judge.first_late.Given as goal
 
 abbrev pub invariant-loop-k : goal.invariant-loop-k
-invariant-loop-k l = (l.k ≤ l.m) × ((j : ℕ) → j < l.k → rule3 l.file j ≡ false) × (l.latest ≡ largest (order l.file) l.k)
-
-abbrev pub decreases-loop-k : goal.decreases-loop-k
-decreases-loop-k l = l.m - l.k
+invariant-loop-k l = ((j : ℕ) → j < l.k → rule3 l.file j ≡ false) × (l.latest ≡ largest (order l.file) l.k)

@@ -9,23 +9,23 @@ use borrow.Author.Rules.{rules}
 use Rattle.mend.proofs.judge.first_unknown.Goals as goal
 
 pub loop-k-init : goal.loop-k-init
-loop-k-init c = (search rules, below_none _)
+loop-k-init c = below_none _
 
-pub returns-then-order-eq3 : goal.returns-then-order-eq3
+pub returns-then-order_of-eq3 : goal.returns-then-order_of-eq3
 unfolding unknown
-returns-then-order-eq3 c =
+returns-then-order_of-eq3 c =
     let l = c.loop-k in
     let s = c.args.file.now in
-    sym (first-at (unknown s) (records s) l.k (search rules) l.invariant.1 (eq-eqb (order s l.k) 3 (sym c.order_of-order.ensures.0 ∙ c.if-order-eq3.true)))
+    (first-at (unknown s) (records s) l.k (search rules) l.invariant (eq-eqb (order s l.k) 3 (sym c.order_of.ensures.0 ∙ c.if-order_of-eq3.true)), search rules)
 
 pub loop-k-preserved : goal.loop-k-preserved
 unfolding unknown
 loop-k-preserved c =
     let l = c.loop-k in
     let s = c.args.file.now in
-    (search rules, below_more _ _ l.invariant.1 (ne_eqb (order s l.k) 3 (λ q. c.if-order-eq3.false (c.order_of-order.ensures.0 ∙ q))))
+    below_more _ _ l.invariant (ne_eqb (order s l.k) 3 (λ q. c.if-order_of-eq3.false (c.order_of.ensures.0 ∙ q)))
 
 pub returns : goal.returns
 returns c =
     let s = c.args.file.now in
-    sym (first-none (unknown s) (records s) (λ j h. c.loop-k.invariant.1 j (omega arith)))
+    first-none (unknown s) (records s) (λ j h. c.loop-k.invariant j (omega arith))

@@ -12,34 +12,40 @@ pub returns-then-wrong_length : goal.returns-then-wrong_length
 unfolding judge_mend
 returns-then-wrong_length c =
     let h : rule1 c.args.file.now ≡ true = sym c.wrong_length.ensures ∙ c.if-wrong_length.true in
-    c.refused.ensures ∙ rw h refl
+    rw (c.whole.ensures, h) refl
 
-pub refused-requires-then-unknown-m : goal.refused-requires-then-unknown-m
-refused-requires-then-unknown-m c =
-    omega (arith, short c.args.file.now (sym c.wrong_length.ensures ∙ c.if-wrong_length.false))
+pub refused-requires : goal.refused-requires
+refused-requires c =
+    let F = rw c.in-Some.is at c.first_unknown.ensures in
+    omega (arith, F.1, short c.args.file.now (sym c.wrong_length.ensures ∙ c.if-wrong_length.false))
 
-pub returns-then-unknown-m : goal.returns-then-unknown-m
+pub returns-in-Some : goal.returns-in-Some
 unfolding judge_mend
-returns-then-unknown-m c =
+returns-in-Some c =
     let s = c.args.file.now in
     let h : rule1 s ≡ false = sym c.wrong_length.ensures ∙ c.if-wrong_length.false in
-    c.refused-then-unknown-m.ensures ∙ rw (h, ← c.first_unknown-unknown.ensures, lt-ltb c.first_unknown-unknown.result (records s) c.if-unknown-m.true) refl
+    let F = rw c.in-Some.is at c.first_unknown.ensures in
+    c.refused.ensures ∙ rw (h, F.0, lt-ltb c.in-Some.k (records s) F.1) refl
 
-pub refused-requires-then-late-m : goal.refused-requires-then-late-m
-refused-requires-then-late-m c =
-    omega (arith, short c.args.file.now (sym c.wrong_length.ensures ∙ c.if-wrong_length.false))
+pub refused-requires-in-Some-first_late : goal.refused-requires-in-Some-first_late
+refused-requires-in-Some-first_late c =
+    let F = rw c.in-Some-first_late.is at c.first_late.ensures in
+    omega (arith, F.1, short c.args.file.now (sym c.wrong_length.ensures ∙ c.if-wrong_length.false))
 
-pub returns-then-late-m : goal.returns-then-late-m
+pub returns-in-Some-first_late : goal.returns-in-Some-first_late
 unfolding judge_mend
-returns-then-late-m c =
+returns-in-Some-first_late c =
     let s = c.args.file.now in
     let h : rule1 s ≡ false = sym c.wrong_length.ensures ∙ c.if-wrong_length.false in
-    c.refused-then-late-m.ensures
-    ∙ rw (h, ← c.first_unknown-unknown.ensures, le-ltb c.first_unknown-unknown.result (records s) c.if-unknown-m.false, ← c.first_late-late.ensures, lt-ltb c.first_late-late.result (records s) c.if-late-m.true) refl
+    let N = rw c.in_default.is at c.first_unknown.ensures in
+    let F = rw c.in-Some-first_late.is at c.first_late.ensures in
+    c.refused-in-Some-first_late.ensures ∙ rw (h, N, le-ltb (records s) (records s) (omega arith), F.0, lt-ltb c.in-Some-first_late.k (records s) F.1) refl
 
 pub returns : goal.returns
 unfolding judge_mend
 returns c =
     let s = c.args.file.now in
     let h : rule1 s ≡ false = sym c.wrong_length.ensures ∙ c.if-wrong_length.false in
-    rw (h, ← c.first_unknown-unknown.ensures, le-ltb c.first_unknown-unknown.result (records s) c.if-unknown-m.false, ← c.first_late-late.ensures, le-ltb c.first_late-late.result (records s) c.if-late-m.false) refl
+    let N = rw c.in_default.is at c.first_unknown.ensures in
+    let F = rw c.in_default-first_late.is at c.first_late.ensures in
+    rw (h, N, le-ltb (records s) (records s) (omega arith), F, le-ltb (records s) (records s) (omega arith)) refl

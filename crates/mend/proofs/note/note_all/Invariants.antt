@@ -1,4 +1,4 @@
-use Prim.Native.Nat.{◌≤◌, ◌-◌, ◌*◌}
+use Prim.Native.Nat.{◌≤◌, ◌*◌}
 use mathlib.Core.Path.{◌≡◌}
 use lib.ListN.{length}
 use Rattle.mends.specs.Mends.{seat}
@@ -8,7 +8,4 @@ use Rattle.mend.proofs.note.note_all.Given as goal
 
 abbrev pub invariant-loop-k : goal.invariant-loop-k
 invariant-loop-k l =
-    (l.k ≤ l.m) × Held (list_up_to l.file l.k) l.initial.list l.list × (l.n ≡ length (list_up_to l.file l.k)) × (l.stood ≡ seat l.file l.k) × (l.n ≤ 16 * l.k) × (l.stood ≤ l.k)
-
-abbrev pub decreases-loop-k : goal.decreases-loop-k
-decreases-loop-k l = l.m - l.k
+    Held (list_up_to l.file l.k) l.initial.list l.list × (l.n ≡ length (list_up_to l.file l.k)) × (l.stood ≡ seat l.file l.k) × (l.n ≤ 16 * l.k) × (l.stood ≤ l.k)

@@ -6,7 +6,5 @@ use Rattle.parallel.proofs.Reaching.{Reaching}
 use Rattle.parallel.proofs.descendants.descendants.Given as goal
 
 abbrev pub invariant-loop-j : goal.invariant-loop-j
-invariant-loop-j l = (l.j ≤ l.n) × ((g : Graph) (T : Weighed g l.edge l.start l.order l.n []) → Reaching T l.t l.j)
-
-abbrev pub decreases-loop-j : goal.decreases-loop-j
-decreases-loop-j l = l.j
+invariant-loop-j l =
+    (g : Graph) (T : Weighed g l.edge l.start l.order l.n []) → Reaching T l.t l.j

@@ -1,35 +1,34 @@
 use mathlib.Core.Path.{◌≡◌}
 use Prim.Native.Nat.{◌-◌, ◌<◌}
 use native.Mathlib.Omega.{arith}
-use borrow.Author.Rules.{rules}
 use lib.ListN.{get_or}
 use Rattle.paths.proofs.Sums.{done_none, done-vertex, done_visitable, done_more, done-comparable, done-summed}
 use Rattle.paths.proofs.ahead.longest.Goals as goal
 use Rattle.paths.proofs.ahead.longest.Goals.{After-most_ahead}
 
 pub loop-j-init : goal.loop-j-init
-loop-j-init c = (search rules, done_none _ _ _ _ _)
+loop-j-init c = done_none _ _ _ _ _
 
 pub bounds-order-j : goal.bounds-order-j
 bounds-order-j c =
     let p = c.requires.1 in
-    omega (arith, c.loop-j.invariant.0, p.vertices, p.rows.accepted.few_vertices)
+    omega (arith, p.vertices, p.rows.accepted.few_vertices)
 
 pub overflow_cast-u : goal.overflow_cast-u
 overflow_cast-u c =
     let l = c.loop-j in
-    omega (arith, done-vertex c.requires.1 (l.j - 1) (omega (arith, l.invariant.0)))
+    omega (arith, done-vertex c.requires.1 (l.j - 1) (omega arith))
 
 pub most_ahead-requires : goal.most_ahead-requires
 most_ahead-requires c =
     let l = c.loop-j in
-    done_visitable c.requires.1 l.sums.ahead l.j (l.j - 1) (omega arith) l.invariant.0 l.invariant.1
+    done_visitable c.requires.1 l.sums.ahead l.j (l.j - 1) (omega arith) (omega arith) l.invariant
 
 -- the place that is stored to
 vertex : (c : After-most_ahead) → get_or c.args.order.now (c.loop-j.j - 1) 0 < 128
 vertex c =
     let l = c.loop-j in
-    done-vertex c.requires.1 (l.j - 1) (omega (arith, l.invariant.0))
+    done-vertex c.requires.1 (l.j - 1) (omega arith)
 
 pub offset_bounds-sums-u : goal.offset_bounds-sums-u
 offset_bounds-sums-u c = omega (arith, vertex c)
@@ -40,7 +39,7 @@ bounds-sums-u c = vertex c
 pub loop-j-preserved : goal.loop-j-preserved
 loop-j-preserved c =
     let l = c.loop-j in
-    (search rules, done_more c.requires.1 l.sums.ahead l.j (l.j - 1) (omega arith) l.invariant.0 l.invariant.1 c.most_ahead.result c.most_ahead.ensures)
+    done_more c.requires.1 l.sums.ahead l.j (l.j - 1) (omega arith) (omega arith) l.invariant c.most_ahead.result c.most_ahead.ensures
 
 pub overflow_cast-order : goal.overflow_cast-order
 overflow_cast-order c =
@@ -52,10 +51,10 @@ foremost-requires c =
     let l = c.loop-j in
     let e : l.j ≡ 0 = omega arith in
     let p = c.requires in
-    done-comparable p.1 l.sums.ahead _ (rw e at l.invariant.1) p.2
+    done-comparable p.1 l.sums.ahead _ (rw e at l.invariant) p.2
 
 pub returns : goal.returns
 returns c g T S =
     let l = c.loop-j in
     let e : l.j ≡ 0 = omega arith in
-    done-summed T l.sums.ahead _ (rw e at l.invariant.1) S c.foremost.result c.foremost.ensures
+    done-summed T l.sums.ahead _ (rw e at l.invariant) S c.foremost.result c.foremost.ensures

@@ -1,7 +1,5 @@
-use mathlib.Core.Path.{◌≡◌}
-use Prim.Native.Nat.{◌+◌, ◌-◌, ◌<◌}
+use Prim.Native.Nat.{◌+◌, ◌<◌}
 use native.Mathlib.Omega.{arith}
-use borrow.Author.Rules.{rules}
 use lib.ListN.{get_or}
 use Rattle.paths.specs.Ahead.{weigh}
 use Rattle.paths.proofs.Along.{follows_none, follows_more}
@@ -9,19 +7,19 @@ use Rattle.paths.proofs.ahead.most_ahead.Goals as goal
 use Rattle.paths.proofs.ahead.most_ahead.Goals.{After-to-v}
 
 pub loop-i-init : goal.loop-i-init
-loop-i-init c = (search rules, (search rules, follows_none _ _ _ _))
+loop-i-init c = follows_none _ _ _ _
 
 -- the edge goes to a vertex, whose sum fits
 vertex : (c : After-to-v) → c.to-v.result < 128
 vertex c =
     let l = c.loop-i in
-    omega (arith, c.to-v.ensures, c.requires.ends l.i l.invariant.0 (omega arith))
+    omega (arith, c.to-v.ensures, c.requires.ends l.i (omega arith) (omega arith))
 
 fits : (c : After-to-v)
     → weigh c.args.weight.now c.to-v.result + get_or c.args.sums.now c.to-v.result 0 < 18446744073709551616
 fits c =
     let l = c.loop-i in
-    rw c.to-v.ensures (c.requires.fits l.i l.invariant.0 (omega arith))
+    rw c.to-v.ensures (c.requires.fits l.i (omega arith) (omega arith))
 
 pub offset_bounds-weight-v : goal.offset_bounds-weight-v
 offset_bounds-weight-v c = omega (arith, vertex c)
@@ -41,11 +39,4 @@ overflow_add-weight c = omega (arith, fits (goal.at.overflow_add-weight c).After
 pub loop-i-preserved : goal.loop-i-preserved
 loop-i-preserved c =
     let l = c.loop-i in
-    (search rules, (omega arith, follows_more _ _ _ _ l.i c.to-v.result l.most _ l.invariant.0 c.to-v.ensures c.larger-most.ensures l.invariant.1.1))
-
-pub returns : goal.returns
-returns c =
-    let l = c.loop-i in
-    let a = c.args in
-    let e : l.i ≡ get_or a.start.now (a.u + 1) 0 = omega arith in
-    rw e at l.invariant.1.1
+    follows_more _ _ _ _ l.i c.to-v.result l.most _ (omega arith) c.to-v.ensures c.max-most.ensures l.invariant

@@ -1,10 +1,6 @@
-use Prim.Native.Nat.{◌+◌, ◌-◌, ◌≤◌}
 use lib.ListN.{get_or}
 use Rattle.paths.specs.Along.{Follows}
 use Rattle.paths.proofs.ahead.most_ahead.Given as goal
 
 abbrev pub invariant-loop-i : goal.invariant-loop-i
-invariant-loop-i l = (get_or l.start l.u 0 ≤ l.i) × ((l.i ≤ get_or l.start (l.u + 1) 0) × Follows l.edge l.weight l.sums (get_or l.start l.u 0) l.i l.most)
-
-abbrev pub decreases-loop-i : goal.decreases-loop-i
-decreases-loop-i l = l.end - l.i
+invariant-loop-i l = Follows l.edge l.weight l.sums (get_or l.start l.u 0) l.i l.most

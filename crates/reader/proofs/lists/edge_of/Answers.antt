@@ -7,15 +7,15 @@ use borrow.Author.Rules.{rules}
 use Rattle.reader.proofs.lists.edge_of.Goals as goal
 
 pub loop-i-init : goal.loop-i-init
-loop-i-init c = (search rules, c.requires.a_value ∙ padded-none 1024 _)
+loop-i-init c = c.requires.a_value ∙ padded-none 1024 _
 
 pub loop-i-preserved : goal.loop-i-preserved
 unfolding keys
 loop-i-preserved c =
     let l = c.loop-i in
-    (search rules, simp (c.key.ensures.0, l.invariant.1) (padded-more 1024 _ l.i (omega arith)))
+    simp (c.key.ensures.0, l.invariant) (padded-more 1024 _ l.i (omega arith))
 
 pub returns : goal.returns
 returns c =
     let e : c.loop-i.i ≡ c.args.n = omega arith in
-    rw (← e) c.loop-i.invariant.1
+    rw (← e) c.loop-i.invariant

@@ -5,7 +5,4 @@ use Rattle.graph.specs.Judge.{applies}
 use Rattle.reader.proofs.numbers.by_number.Given as goal
 
 abbrev pub invariant-loop-number : goal.invariant-loop-number
-invariant-loop-number l = (2 ≤ l.number) × (l.number ≤ 11) × ((j : ℕ) → j < l.number → 2 ≤ j → applies l.file j ≡ false)
-
-abbrev pub decreases-loop-number : goal.decreases-loop-number
-decreases-loop-number l = 11 - l.number
+invariant-loop-number l = (j : ℕ) → j < l.number → 2 ≤ j → applies l.file j ≡ false

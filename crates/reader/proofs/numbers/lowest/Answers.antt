@@ -1,4 +1,4 @@
-use mathlib.Core.Path.{sym, ◌∙◌}
+use mathlib.Core.Path.{◌≡◌, sym, ◌∙◌}
 use Rattle.plain.proofs.Passed.{counted, quiet}
 use Rattle.reader.proofs.Taking.{found-quiet}
 use Rattle.reader.proofs.numbers.lowest.Goals as goal
@@ -8,4 +8,4 @@ returns-then-whole c =
     let s = c.args.file.now in
     let p = c.counts-plain.ensures in
     let t = sym c.whole.ensures ∙ c.if-whole.true in
-    record { number = sym (found-quiet s (quiet s c.counts-plain.result p t)); counted = counted s c.counts-plain.result p t }
+    record { answer = sym (found-quiet s (quiet s c.counts-plain.result p t)); counted = λ x e. let q : c.counts-plain.result ≡ x = cc in rw q at (counted s c.counts-plain.result p t) }

@@ -1,4 +1,3 @@
-use Prim.Native.Nat.{◌-◌}
 use mathlib.Core.Path.{sym, ◌∙◌}
 use mathlib.Core.Bool.{false}
 use native.Mathlib.Omega.{arith}
@@ -8,21 +7,21 @@ use borrow.Author.Rules.{rules}
 use Rattle.reader.proofs.numbers.scan.Goals as goal
 
 pub loop-k-init : goal.loop-k-init
-loop-k-init c = (search rules, c.start-p.ensures _, below_none _)
+loop-k-init c = (c.start-p.ensures _, below_none _)
 
 pub record_fails-requires : goal.record_fails-requires
-record_fails-requires c = (search rules, c.loop-k.invariant.1, c.requires)
+record_fails-requires c = (search rules, c.loop-k.invariant.0, c.requires)
 
 pub returns-then-record_fails : goal.returns-then-record_fails
 returns-then-record_fails c =
-    sym (first-at _ _ _ (search rules) c.loop-k.invariant.2 (sym c.record_fails.ensures ∙ c.if-record_fails.true))
+    sym (first-at _ _ _ (search rules) c.loop-k.invariant.1 (sym c.record_fails.ensures ∙ c.if-record_fails.true))
 
-pub pass-next-requires : goal.pass-next-requires
-pass-next-requires c = (search rules, c.loop-k.invariant.1)
+pub pass-p-requires : goal.pass-p-requires
+pass-p-requires c = (search rules, c.loop-k.invariant.0)
 
 pub loop-k-preserved : goal.loop-k-preserved
 loop-k-preserved c =
-    (search rules, c.pass-next.ensures, below_more _ _ c.loop-k.invariant.2 (sym c.record_fails.ensures ∙ c.if-record_fails.false))
+    (c.pass-p.ensures, below_more _ _ c.loop-k.invariant.1 (sym c.record_fails.ensures ∙ c.if-record_fails.false))
 
 pub returns : goal.returns
-returns c = sym (first-none _ _ (λ j h. c.loop-k.invariant.2 j (omega arith)))
+returns c = sym (first-none _ _ (λ j h. c.loop-k.invariant.1 j (omega arith)))

@@ -1,4 +1,4 @@
-use Prim.Native.Nat.{ℕ, ◌≤◌, ◌<◌, ◌-◌}
+use Prim.Native.Nat.{ℕ, ◌<◌}
 use mathlib.Core.Path.{◌≡◌}
 use mathlib.Core.Bool.{false}
 use Rattle.records.specs.Passing.{Before}
@@ -6,7 +6,4 @@ use Rattle.rules.specs.Rows.{of_record}
 use Rattle.reader.proofs.numbers.scan.Given as goal
 
 abbrev pub invariant-loop-k : goal.invariant-loop-k
-invariant-loop-k l = (l.k ≤ l.m) × Before l.file l.k l.p × ((j : ℕ) → j < l.k → of_record l.file l.number j ≡ false)
-
-abbrev pub decreases-loop-k : goal.decreases-loop-k
-decreases-loop-k l = l.m - l.k
+invariant-loop-k l = Before l.file l.k l.p × ((j : ℕ) → j < l.k → of_record l.file l.number j ≡ false)

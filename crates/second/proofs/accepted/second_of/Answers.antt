@@ -4,7 +4,6 @@ use native.Mathlib.Omega.{arith}
 use Rattle.model.specs.PathCount.{path_count}
 use Rattle.graph.specs.declared.Graph.{Graph}
 use Rattle.graph.specs.Model.{as_model}
-use Rattle.reader.specs.Laid.{graph_in}
 use Rattle.rows.proofs.Telling.{led-source}
 use Rattle.ways.specs.Counts.{Counts}
 use Rattle.ways.proofs.Counting.{counts-few, whole_is}
@@ -15,9 +14,9 @@ use Rattle.second.proofs.Grounds.{lists, laid, cores-some, ground}
 use Rattle.second.proofs.accepted.second_of.Goals as goal
 use Rattle.second.proofs.accepted.second_of.Goals.{After-led-led, After-shares-share, After-table-ways, After-whole-count, Else-count-gt4096, Start}
 
--- the graph that the lists are
+-- the graph that was laid
 abbrev given : Start → Graph
-given s = graph_in s.args.h s.args.cores.now s.args.kind.now s.args.wcet.now s.args.edge.now
+given s = s.args.laid.now.graph
 
 -- its sources are those that nobody leads to
 unled : (c : After-led-led) → Sources (given (goal.at.After-led-led c).Start) c.led-led.result
@@ -43,7 +42,7 @@ within : (c : Else-count-gt4096) → c.whole-count.result ≡ path_count (as_mod
 within c = omega (arith, whole (goal.at.Else-count-gt4096 c).After-whole-count, c.if-count-gt4096.false)
 
 grounds : (c : After-shares-share)
-    → Ground (given (start (goal.at.After-shares-share c).Else-count-gt4096)) c.table-ways.result c.beside.new.t c.args.kind.now c.args.wcet.now c.shares-share.result
+    → Ground (given (start (goal.at.After-shares-share c).Else-count-gt4096)) c.table-ways.result c.beside.new.t c.args.laid.now.graph.kind c.args.laid.now.graph.wcet c.shares-share.result
 grounds c =
     let p = c.requires.usable in
     ground p (counts (goal.at.After-shares-share c).After-table-ways) (few (goal.at.After-shares-share c).Else-count-gt4096) (c.beside.ensures _ (lists p) refl c.requires.kin.ancestors) c.shares-share.ensures
@@ -58,7 +57,7 @@ pub whole-count-requires : goal.whole-count-requires
 whole-count-requires c = record { n_bound = c.requires.usable.accepted.few_vertices; by_index = counts-few (counts (goal.at.whole-count-requires c).After-table-ways) }
 
 pub returns-then-count-gt4096 : goal.returns-then-count-gt4096
-returns-then-count-gt4096 c = too_many (omega (arith, whole (goal.at.returns-then-count-gt4096 c).After-whole-count, c.if-count-gt4096.true)) c.nothing.ensures.answer_value c.nothing.ensures.parts_value
+returns-then-count-gt4096 c = rw c.whole.ensures (too_many (omega (arith, whole (goal.at.returns-then-count-gt4096 c).After-whole-count, c.if-count-gt4096.true)) refl refl)
 
 pub beside-requires : goal.beside-requires
 beside-requires c = let p = c.requires in record { weighed = (_, lists p.usable, refl, p.kin.ancestors); t_value = refl }

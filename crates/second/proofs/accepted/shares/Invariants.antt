@@ -5,7 +5,5 @@ use Rattle.second.specs.Shares.{share_by}
 use Rattle.second.proofs.accepted.shares.Given as goal
 
 abbrev pub invariant-loop-s : goal.invariant-loop-s
-invariant-loop-s l = (l.s ≤ l.kinds) × (l.list ≡ padded 10 (share_by l.cores) l.s)
-
-abbrev pub decreases-loop-s : goal.decreases-loop-s
-decreases-loop-s l = l.kinds - l.s
+invariant-loop-s l =
+    l.list ≡ padded 10 (share_by l.cores) l.s

@@ -1,4 +1,4 @@
-use Prim.Native.Nat.{ℕ, ◌+◌, ◌-◌, ◌*◌, ◌≤◌, ◌<◌}
+use Prim.Native.Nat.{ℕ, ◌*◌, ◌≤◌, ◌<◌}
 use mathlib.Core.Path.{◌≡◌}
 use mathlib.Core.Bool.{Bool}
 use lib.ListN.{length}
@@ -10,7 +10,4 @@ use Rattle.stg.proofs.edges.all_edges.Given as goal
 
 abbrev pub invariant-loop-u : goal.invariant-loop-u
 invariant-loop-u l =
-    (l.u ≤ l.n + 2) × (l.many ≤ 1025) × (length l.list ≡ 1025) × ((p : ℕ → Bool) → ((w : ℕ) → w < l.u → From p w (row_of l.after w)) → Listed (that p (256 * l.u)) l.many l.list)
-
-abbrev pub decreases-loop-u : goal.decreases-loop-u
-decreases-loop-u l = l.n + 2 - l.u
+    (l.many ≤ 1025) × (length l.list ≡ 1025) × ((p : ℕ → Bool) → ((w : ℕ) → w < l.u → From p w (row_of l.after w)) → Listed (that p (256 * l.u)) l.many l.list)

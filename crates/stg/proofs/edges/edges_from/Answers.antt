@@ -25,8 +25,8 @@ overflow_add-u c = omega (arith, (found (goal.at.overflow_add-u c).After-next-ne
 pub overflow_cast-u : goal.overflow_cast-u
 overflow_cast-u c = omega (arith, (found (goal.at.overflow_cast-u c).After-next-next).0)
 
-pub push-more-requires : goal.push-more-requires
-push-more-requires c = let I = c.loop-rest.invariant in (I.few, I.long)
+pub push-m-requires : goal.push-m-requires
+push-m-requires c = let I = c.loop-rest.invariant in (I.few, I.long)
 
 pub loop-rest-smaller : goal.loop-rest-smaller
 loop-rest-smaller c =
@@ -41,7 +41,7 @@ loop-rest-preserved c =
     let a = c.args in
     let n = c.next-next in
     let h = found (goal.at.loop-rest-preserved c).After-next-next in
-    let p = c.push-more in
+    let p = c.push-m in
     listing_more a.u a.after a.many a.list.now (is_in l.rest) l.m l.list n.result.v (is_in n.result.rest) p.result p.new.list l.invariant n.ensures.v_value h.0 h.1 n.ensures.members.are p.ensures.by_index p.ensures.upper_bound.0 p.ensures.upper_bound.1
 
 pub returns : goal.returns

@@ -1,43 +1,22 @@
-use mathlib.Core.Path.{refl}
-use native.Mathlib.Omega.{arith}
-use Rattle.stg.specs.Lines.{inside}
-use Rattle.stg.proofs.Reached.{tasks_good, tasks-bad, comments_good, comments_bad, faulted_laid, all-inside}
-use borrow.Author.Rules.{rules}
+use mathlib.Core.Path.{sym, ◌∙◌}
+use Rattle.stg.proofs.Reached.{handed, fault-of, faulted_laid, all-inside}
 use Rattle.stg.proofs.lines.lay_out.Goals as goal
 
-pub tasks_at-t-requires : goal.tasks_at-t-requires
-tasks_at-t-requires c =
-    let C = rw c.in-Tasks.is at c.count_at-c.ensures in
-    record { text_len_bound = (search rules, C.1, C.0, C.2); blank = c.requires.blank }
+pub returns-in_err-count : goal.returns-in_err-count
+returns-in_err-count c =
+    let F = fault-of c.count_at.result 0 _ (sym c.in_err-count.was ∙ c.ok_or.ensures.value) in
+    rw (handed _ _ c.from_residual.ensures.1, F.1) (faulted_laid c.args.text.now (record { line = 0 }) c.requires.text_len_bound (rw F.0 at c.count_at.ensures))
 
-pub returns-then-not-t : goal.returns-then-not-t
-returns-then-not-t c =
-    let t = c.tasks_at-t in
-    faulted_laid c.args.text.now _ c.no_layout.result _ _ c.requires.text_len_bound (tasks-bad _ _ t.result _ _ t.ensures c.if-not-t.true) c.no_layout.ensures.0 c.no_layout.ensures.1
+pub returns-in_err-at : goal.returns-in_err-at
+returns-in_err-at c =
+    rw (handed _ _ c.from_residual-in_err-at.ensures.1) (faulted_laid c.args.text.now _ c.requires.text_len_bound (rw c.in_err-at.was at c.tasks_at.ensures))
 
-pub overflow_add-n : goal.overflow_add-n
-overflow_add-n c =
-    let C = rw c.in-Tasks.is at c.count_at-c.ensures in
-    omega (arith, C.1)
+pub returns-in_err-comments_at : goal.returns-in_err-comments_at
+returns-in_err-comments_at c =
+    rw (handed _ _ c.from_residual-in_err-comments_at.ensures.1) (faulted_laid c.args.text.now _ c.requires.text_len_bound (rw c.in_err-comments_at.was at c.comments_at.ensures))
 
-pub comments_at-k-requires : goal.comments_at-k-requires
-comments_at-k-requires c =
-    let C = rw c.in-Tasks.is at c.count_at-c.ensures in
-    let t = c.tasks_at-t in
-    (c.requires.text_len_bound, omega (arith, C.0), (tasks_good _ _ t.result _ _ t.ensures c.if-not-t.false).0)
-
-pub returns-then-not-k : goal.returns-then-not-k
-returns-then-not-k c =
-    let k = c.comments_at-k in
-    faulted_laid c.args.text.now _ c.no_layout-then-not-k.result _ _ c.requires.text_len_bound (comments_bad _ k.result k.ensures c.if-not-k.true) c.no_layout-then-not-k.ensures.0 c.no_layout-then-not-k.ensures.1
-
-pub returns-else-not-k : goal.returns-else-not-k
-returns-else-not-k c =
-    let C = rw c.in-Tasks.is at c.count_at-c.ensures in
-    let t = c.tasks_at-t in
-    let k = c.comments_at-k in
-    inside refl (all-inside c.args.text.now c.requires.text_len_bound (comments_good _ k.result k.ensures c.if-not-k.false)) C.0 C.1 (tasks_good _ _ t.result _ _ t.ensures c.if-not-t.false).1
-
-pub returns-in-Fault : goal.returns-in-Fault
-returns-in-Fault c =
-    faulted_laid c.args.text.now 0 c.no_layout-in-Fault.result _ _ c.requires.text_len_bound (rw c.in-Fault.is at c.count_at-c.ensures) c.no_layout-in-Fault.ensures.0 c.no_layout-in-Fault.ensures.1
+pub returns : goal.returns
+returns c =
+    let C = rw c.in_ok-count.ensures.ok_part at c.count_at.ensures in
+    let T = rw c.in_ok-at.was at c.tasks_at.ensures in
+    (all-inside c.args.text.now c.requires.text_len_bound (rw c.in_ok-comments_at.was at c.comments_at.ensures), C.0, C.1, T.1)

@@ -1,12 +1,13 @@
-use mathlib.Core.Path.{refl}
-use Rattle.stg.proofs.Kept.{above-taken, within-taken}
+use mathlib.Core.Path.{sym, ◌∙◌}
+use Rattle.stg.proofs.Kept.{above-taken, twice-taken, within-taken}
 use borrow.Author.Rules.{rules}
 use Rattle.stg.proofs.row.with_before.Goals as goal
 
 pub returns-then-n-x : goal.returns-then-n-x
-returns-then-n-x c = λ xs H. above-taken _ _ c.args.row xs _ refl (search rules) c.if-n-x.true H
+returns-then-n-x c = λ xs H. above-taken c.args.n c.args.x c.args.row xs (search rules) c.if-n-x.true H
+
+pub returns-then-test : goal.returns-then-test
+returns-then-test c = λ xs H. twice-taken c.args.n c.args.x c.args.row xs (search rules) (search rules) H (sym c.test.ensures ∙ c.if-test.true)
 
 pub returns : goal.returns
-returns c =
-    let a = c.args in
-    λ xs H. rw c.test-again.ensures (within-taken a.n a.x a.row xs c.with-more.result (search rules) (search rules) c.with-more.ensures H)
+returns c = λ xs H. within-taken c.args.n c.args.x c.args.row xs (search rules) (search rules) H (sym c.test.ensures ∙ c.if-test.false) c.with.result c.with.ensures

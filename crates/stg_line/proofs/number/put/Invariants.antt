@@ -3,6 +3,3 @@ use Rattle.stg_line.proofs.number.put.Given as goal
 
 abbrev pub invariant-loop-k : goal.invariant-loop-k
 invariant-loop-k l = Laying l.initial.out l.at l.x l.k l.y l.out
-
-abbrev pub decreases-loop-k : goal.decreases-loop-k
-decreases-loop-k l = l.k

@@ -8,7 +8,7 @@ use Rattle.stg_writer.proofs.ends.any_other.Goals as goal
 
 pub loop-v-init : goal.loop-v-init
 unfolding any
-loop-v-init c = (search rules, refl)
+loop-v-init c = refl
 
 pub returns-then-other_end : goal.returns-then-other_end
 returns-then-other_end c =
@@ -20,11 +20,11 @@ pub loop-v-preserved : goal.loop-v-preserved
 loop-v-preserved c =
     let l = c.loop-v in
     let a = c.args in
-    (search rules, any-more (other_end_of a.n a.before.now a.some) l.v ∙ rw l.invariant.1 (sym c.other_end.ensures ∙ c.if-other_end.false))
+    any-more (other_end_of a.n a.before.now a.some) l.v ∙ rw l.invariant (sym c.other_end.ensures ∙ c.if-other_end.false)
 
 pub returns : goal.returns
 returns c =
     let l = c.loop-v in
     let a = c.args in
     let e : l.v ≡ a.n = omega arith in
-    rw e at (sym l.invariant.1)
+    rw e at (sym l.invariant)

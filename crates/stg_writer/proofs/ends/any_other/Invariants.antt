@@ -1,4 +1,3 @@
-use Prim.Native.Nat.{◌-◌, ◌≤◌}
 use mathlib.Core.Path.{◌≡◌}
 use mathlib.Core.Bool.{false}
 use Rattle.model.specs.Places.{any}
@@ -6,7 +5,4 @@ use Rattle.stg_writer.specs.Before.{other_end_of}
 use Rattle.stg_writer.proofs.ends.any_other.Given as goal
 
 abbrev pub invariant-loop-v : goal.invariant-loop-v
-invariant-loop-v l = (l.v ≤ l.n) × (any (other_end_of l.n l.before l.some) l.v ≡ false)
-
-abbrev pub decreases-loop-v : goal.decreases-loop-v
-decreases-loop-v l = l.n - l.v
+invariant-loop-v l = any (other_end_of l.n l.before l.some) l.v ≡ false

@@ -20,7 +20,7 @@ first-line c = record { is = omega (arith, c.put_count-i.ensures.0); laid = c.pu
 pub loop-v-init : goal.loop-v-init
 loop-v-init c =
     let a = c.args in
-    (search rules, rows_none a.n a.before.now a.wcet.now a.out.now _ _ (first-line (goal.at.loop-v-init c).After-put_count-i))
+    rows_none a.n a.before.now a.wcet.now a.out.now _ _ (first-line (goal.at.loop-v-init c).After-put_count-i)
 
 pub overflow_cast-wcet : goal.overflow_cast-wcet
 overflow_cast-wcet c = omega (arith, c.requires.2 c.loop-v.v (search rules))
@@ -28,7 +28,7 @@ overflow_cast-wcet c = omega (arith, c.requires.2 c.loop-v.v (search rules))
 pub put_task-next-requires : goal.put_task-next-requires
 put_task-next-requires c =
     let l = c.loop-v in
-    let P = rows-lines c.args.n c.args.before.now c.args.wcet.now c.args.out.now _ _ (first-line (goal.at.put_task-next-requires c).After-put_count-i) l.v l.i l.out l.invariant.1 in
+    let P = rows-lines c.args.n c.args.before.now c.args.wcet.now c.args.out.now _ _ (first-line (goal.at.put_task-next-requires c).After-put_count-i) l.v l.i l.out l.invariant in
     let same = put-long _ _ _ _ _ P in
     (search rules, c.requires.2 c.loop-v.v (search rules), rw c.row-set.ensures (omega (arith, P.is, lines_fit c.args.n c.args.before.now c.args.wcet.now l.v (search rules), c.requires.3)))
 
@@ -37,13 +37,13 @@ loop-v-preserved c =
     let l = c.loop-v in
     let a = c.args in
     let p = c.put_task-next in
-    (search rules, rows_more a.n a.before.now a.wcet.now _ _ l.v l.i l.out p.result p.new.out l.invariant.1 (rw (← c.row-set.ensures) (record { is = p.ensures.0; laid = p.ensures.1 })))
+    rows_more a.n a.before.now a.wcet.now _ _ l.v l.i l.out p.result p.new.out l.invariant (rw (← c.row-set.ensures) (record { is = p.ensures.0; laid = p.ensures.1 }))
 
 pub shape_of-out : goal.shape_of-out
 shape_of-out c =
     let l = c.loop-v in
     let a = c.args in
-    put-long _ _ _ _ _ (rows-lines a.n a.before.now a.wcet.now a.out.now _ _ (first-line (goal.at.shape_of-out c).After-put_count-i) l.v l.i l.out l.invariant.1)
+    put-long _ _ _ _ _ (rows-lines a.n a.before.now a.wcet.now a.out.now _ _ (first-line (goal.at.shape_of-out c).After-put_count-i) l.v l.i l.out l.invariant)
 
 pub returns : goal.returns
 unfolding text_in
@@ -51,5 +51,5 @@ returns c =
     let l = c.loop-v in
     let a = c.args in
     let e : l.v ≡ a.n = omega arith in
-    let P = rows-lines a.n a.before.now a.wcet.now a.out.now _ _ (first-line (goal.at.returns c).After-put_count-i) l.v l.i l.out l.invariant.1 in
+    let P = rows-lines a.n a.before.now a.wcet.now a.out.now _ _ (first-line (goal.at.returns c).After-put_count-i) l.v l.i l.out l.invariant in
     rw e at P.laid

@@ -1,20 +1,19 @@
 use mathlib.Core.Path.{◌≡◌}
-use Prim.Native.Nat.{◌-◌, ◌<◌}
+use Prim.Native.Nat.{◌<◌}
 use native.Mathlib.Omega.{arith}
 use lib.ListN.{get_or}
 use Rattle.summary.proofs.Along.{few, vertex, row}
 use Rattle.summary.proofs.Forward.{Forward, forward_none, forward_fits, forward_long, forward_more, forward_done}
-use borrow.Author.Rules.{rules}
 use Rattle.summary.proofs.ending.ending.Goals as goal
 use Rattle.summary.proofs.ending.ending.Goals.{In-loop-j}
 
 pub loop-j-init : goal.loop-j-init
-loop-j-init c = (search rules, λ g T K. forward_none T _ _ K)
+loop-j-init c = (λ g T K. forward_none T _ _ K)
 
 -- the sums so far, of the graph that there is
 so_far : (c : In-loop-j)
     → Forward c.requires.1 c.args.mark.now c.loop-j.sums c.loop-j.j
-so_far c = let p = c.requires in c.loop-j.invariant.1 p.0 p.1 p.2
+so_far c = let p = c.requires in c.loop-j.invariant p.0 p.1 p.2
 
 known : (c : In-loop-j) → get_or c.args.order.now c.loop-j.j 0 < c.requires.0.n
 known c = vertex c.requires.1 c.loop-j.j c.loop-j-test.true
@@ -46,13 +45,10 @@ tell-requires c =
 
 pub loop-j-preserved : goal.loop-j-preserved
 loop-j-preserved c =
-    let l = c.loop-j in (
-      search rules,
-      λ g T K. forward_more T _ l.sums l.j c.loop-j-test.true (l.invariant.1 g T K) c.sum-own.result c.sum-own.ensures _ c.tell.ensures,
-    )
+    let l = c.loop-j in λ g T K. forward_more T _ l.sums l.j c.loop-j-test.true (l.invariant g T K) c.sum-own.result c.sum-own.ensures _ c.tell.ensures
 
 pub returns : goal.returns
 returns c g T K =
     let l = c.loop-j in
     let e : l.j ≡ c.args.n = omega arith in
-    forward_done T _ l.sums (rw e at (l.invariant.1 g T K))
+    forward_done T _ l.sums (rw e at (l.invariant g T K))

@@ -4,7 +4,6 @@ use native.Mathlib.Omega.{arith}
 use lib.ListN.{get_or}
 use Rattle.summary.proofs.Along.{few, vertex, row}
 use Rattle.summary.proofs.Marking.{backwards_none, backwards_more, backwards_done}
-use borrow.Author.Rules.{rules}
 use Rattle.summary.proofs.marks.behind.Goals as goal
 use Rattle.summary.proofs.marks.behind.Goals.{In-loop-j}
 
@@ -12,14 +11,14 @@ pub bounds-marks-v : goal.bounds-marks-v
 bounds-marks-v c = omega (arith, c.requires.3, few c.requires.2)
 
 pub loop-j-init : goal.loop-j-init
-loop-j-init c = (search rules, λ g w T. backwards_none T _ (omega (arith, c.requires.3, few c.requires.2)))
+loop-j-init c = (λ g w T. backwards_none T _ (omega (arith, c.requires.3, few c.requires.2)))
 
 -- the vertex before place j
 known : (c : In-loop-j) → get_or c.args.order.now (c.loop-j.j - 1) 0 < c.requires.0.n
-known c = vertex c.requires.2 (c.loop-j.j - 1) (omega (arith, c.loop-j.invariant.0))
+known c = vertex c.requires.2 (c.loop-j.j - 1) (omega arith)
 
 pub bounds-order-j : goal.bounds-order-j
-bounds-order-j c = let T = c.requires.2 in omega (arith, few T, T.vertices, c.loop-j.invariant.0)
+bounds-order-j c = let T = c.requires.2 in omega (arith, few T, T.vertices)
 
 pub overflow_cast-u : goal.overflow_cast-u
 overflow_cast-u c = omega (arith, known (goal.at.overflow_cast-u c).In-loop-j, few c.requires.2)
@@ -32,13 +31,10 @@ bounds-marks-u c = omega (arith, known (goal.at.bounds-marks-u c).In-loop-j, few
 
 pub loop-j-preserved : goal.loop-j-preserved
 loop-j-preserved c =
-    let l = c.loop-j in (
-      search rules,
-      λ g w T. backwards_more T _ l.marks l.j (l.j - 1) c.taken.result (omega arith) l.invariant.0 c.taken.ensures (l.invariant.1 g w T),
-    )
+    let l = c.loop-j in λ g w T. backwards_more T _ l.marks l.j (l.j - 1) c.taken.result (omega arith) (omega arith) c.taken.ensures (l.invariant g w T)
 
 pub returns : goal.returns
 returns c g w T =
     let l = c.loop-j in
     let e : l.j ≡ 0 = omega arith in
-    backwards_done T _ l.marks (rw e at (l.invariant.1 g w T))
+    backwards_done T _ l.marks (rw e at (l.invariant g w T))

@@ -1,9 +1,6 @@
-use Prim.Native.Nat.{◌-◌, ◌≤◌}
-use Rattle.summary.specs.Row.{many, Told}
+use mathlib.Core.Bool.{true}
+use Rattle.summary.specs.Tables.{Marked}
 use Rattle.summary.proofs.marks.hand_on.Given as goal
 
 abbrev pub invariant-loop-k : goal.invariant-loop-k
-invariant-loop-k l = (l.k ≤ many l.start l.u) × Told l.edge l.start (λ x. l.mark) l.u l.k l.initial.marks l.marks
-
-abbrev pub decreases-loop-k : goal.decreases-loop-k
-decreases-loop-k l = many l.start l.u - l.k
+invariant-loop-k l = Marked l.edge l.start true l.u l.k l.initial.marks l.marks

@@ -1,11 +1,9 @@
 use mathlib.Core.Path.{◌≡◌}
-use Prim.Native.Nat.{◌-◌, ◌≤◌, max}
+use mathlib.Core.Bool.{false, ◌||◌}
 use lib.ListN.{get_or}
-use Rattle.summary.specs.Row.{many, most_over}
+use Rattle.model.specs.Places.{any}
+use Rattle.summary.specs.Row.{nth}
 use Rattle.summary.proofs.marks.taken.Given as goal
 
 abbrev pub invariant-loop-k : goal.invariant-loop-k
-invariant-loop-k l = (l.k ≤ many l.start l.u) × (l.most ≡ max (get_or l.marks l.u 0) (most_over l.edge l.start l.marks l.u l.k))
-
-abbrev pub decreases-loop-k : goal.decreases-loop-k
-decreases-loop-k l = many l.start l.u - l.k
+invariant-loop-k l = l.marked ≡ (get_or l.marks l.u false || any (λ k. get_or l.marks (nth l.edge l.start l.u k) false) l.k)

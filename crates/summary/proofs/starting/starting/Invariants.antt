@@ -1,4 +1,3 @@
-use Prim.Native.Nat.{◌-◌, ◌≤◌}
 use Rattle.graph.specs.declared.Graph.{Graph}
 use Rattle.graph.specs.Model.{as_model}
 use Rattle.paths.specs.Ahead.{weigh, Weighed}
@@ -8,7 +7,4 @@ use Rattle.summary.proofs.starting.starting.Given as goal
 
 abbrev pub invariant-loop-j : goal.invariant-loop-j
 invariant-loop-j l =
-    (l.j ≤ l.n) × ((g : Graph) (T : Weighed g l.edge l.start l.order l.n l.weight) → StartsBut (as_model g) (weigh l.weight) l.mark l.initial.sums → Backward T l.mark l.sums l.j)
-
-abbrev pub decreases-loop-j : goal.decreases-loop-j
-decreases-loop-j l = l.j
+    (g : Graph) (T : Weighed g l.edge l.start l.order l.n l.weight) → StartsBut (as_model g) (weigh l.weight) l.mark l.initial.sums → Backward T l.mark l.sums l.j

@@ -12,7 +12,7 @@ use Rattle.choice.proofs.ByKind.{few_go_on}
 use Rattle.ready.proofs.ByNumbers.{edges-counted, layout}
 use Rattle.tick.specs.declared.Run.{Run}
 use Rattle.tick.specs.declared.Ticked.{Ticked}
-use Rattle.tick.specs.declared.Report.TheVariants.{Moved}
+use Rattle.tick.specs.Report.{Moved}
 use Rattle.tick.specs.Run.{left_of, state_of, over, ticked_of}
 use Rattle.tick.specs.Suits.{suits}
 use Rattle.tick.specs.Lists.{ListsOf}

@@ -6,7 +6,4 @@ use Rattle.summary.specs.Row.{many, nth}
 use Rattle.visit.proofs.choose.child.Given as goal
 
 abbrev pub invariant-loop-j : goal.invariant-loop-j
-invariant-loop-j l = (l.j < many l.start l.u) × (l.base ≡ l.first + sum (λ i. get_or l.ways (nth l.edge l.start l.u i) 0) l.j) × (l.base ≤ l.k)
-
-abbrev pub decreases-loop-j : goal.decreases-loop-j
-decreases-loop-j l = many l.start l.u - l.j
+invariant-loop-j l = (l.base ≡ l.first + sum (λ i. get_or l.ways (nth l.edge l.start l.u i) 0) l.j) × (l.base ≤ l.k)

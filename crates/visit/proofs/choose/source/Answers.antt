@@ -23,7 +23,7 @@ picked false x base k l h = absurd (omega arith)
 
 pub loop-v-init : goal.loop-v-init
 unfolding sum
-loop-v-init c = (omega arith, omega arith, omega arith)
+loop-v-init c = (omega arith, omega arith)
 
 pub overflow_cast-next : goal.overflow_cast-next
 overflow_cast-next c = omega (arith, few c)
@@ -31,7 +31,7 @@ overflow_cast-next c = omega (arith, few c)
 pub overflow_add-next : goal.overflow_add-next
 overflow_add-next c =
     let l = c.loop-v in
-    omega (arith, few c, l.invariant.2, c.requires.n_bound.1)
+    omega (arith, few c, l.invariant.1, c.requires.n_bound.1)
 
 pub returns-then-k-next : goal.returns-then-k-next
 returns-then-k-next c =
@@ -42,23 +42,19 @@ returns-then-k-next c =
     let h : a.k < l.base + pick b x 0 = rw c.from_source.ensures at c.if-k-next.true in
     record {
       known = c.loop-v-test.true;
-      is_source = picked b x l.base a.k l.invariant.2 h;
-      base = l.invariant.1;
-      low = l.invariant.2;
+      is_source = picked b x l.base a.k l.invariant.1 h;
+      base = l.invariant.0;
+      low = l.invariant.1;
       high = omega (arith, pick_small b x, h);
     }
 
 pub loop-v-preserved : goal.loop-v-preserved
 loop-v-preserved c =
     let l = c.loop-v in
-    let a = c.args in (
-      omega (arith, c.loop-v-test.true),
-      omega (arith, c.from_source.ensures, l.invariant.1, sum-next (from_source_of a.led.now a.ways.now) l.v),
-      c.if-k-next.false,
-    )
+    let a = c.args in (omega (arith, c.from_source.ensures, l.invariant.0, sum-next (from_source_of a.led.now a.ways.now) l.v), c.if-k-next.false)
 
 pub returns : goal.returns
 returns c =
     let l = c.loop-v in
-    let e : l.v ≡ c.args.n = omega (arith, l.invariant.0, c.loop-v-test.false) in
-    absurd (omega (arith, rw e at l.invariant.1, l.invariant.2, c.requires.n_bound.2))
+    let e : l.v ≡ c.args.n = omega (arith, c.loop-v-test.false) in
+    absurd (omega (arith, rw e at l.invariant.0, l.invariant.1, c.requires.n_bound.2))

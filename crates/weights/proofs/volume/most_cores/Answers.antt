@@ -1,8 +1,7 @@
 use mathlib.Core.Path.{◌≡◌, refl, ap, ◌∙◌}
 use mathlib.Core.Bool.{Bool}
-use Prim.Native.Nat.{◌-◌, ◌<◌}
+use Prim.Native.Nat.{◌<◌}
 use native.Mathlib.Omega.{arith}
-use borrow.Author.Rules.{rules}
 use lib.ListN.{get_or}
 use Rattle.model.specs.Places.{pick, largest}
 use Rattle.model.specs.Bounds.{used, most_cores_of}
@@ -18,7 +17,7 @@ used_kinds-used-requires c =
 
 pub loop-s-init : goal.loop-s-init
 unfolding largest
-loop-s-init c = (search rules, refl)
+loop-s-init c = refl
 
 few : (c : In-loop-s) → c.loop-s.s < 10
 few c = omega (arith, c.requires.1.few_kinds)
@@ -35,10 +34,10 @@ loop-s-preserved c =
     let a = c.args in
     let marks = c.used_kinds-used.ensures l.s (few (goal.at.loop-s-preserved c).In-loop-s) in
     let is = c.counted.ensures ∙ ap (λ (b : Bool). pick b (get_or a.cores.now l.s 0) 0) marks in
-    (search rules, most-more (counts a.kind.now a.cores.now a.n) l.s c.larger-most.ensures l.invariant.1 is)
+    most-more (counts a.kind.now a.cores.now a.n) l.s c.max-most.ensures l.invariant is
 
 pub returns : goal.returns
 unfolding most_cores_of used
 returns c w =
     let e : c.loop-s.s ≡ c.args.kinds = omega arith in
-    c.loop-s.invariant.1 ∙ ap (largest _) e
+    c.loop-s.invariant ∙ ap (largest _) e

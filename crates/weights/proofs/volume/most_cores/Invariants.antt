@@ -1,6 +1,6 @@
 use mathlib.Core.Path.{◌≡◌}
 use mathlib.Core.List.{List}
-use Prim.Native.Nat.{ℕ, ◌-◌, ◌≤◌}
+use Prim.Native.Nat.{ℕ}
 use lib.ListN.{get_or}
 use Rattle.model.specs.Places.{pick, largest}
 use Rattle.weights.proofs.Used.{has}
@@ -11,7 +11,4 @@ abbrev pub counts : List ℕ → List ℕ → ℕ → ℕ → ℕ
 counts kind cores n s = pick (has kind n s) (get_or cores s 0) 0
 
 abbrev pub invariant-loop-s : goal.invariant-loop-s
-invariant-loop-s l = (l.s ≤ l.kinds) × (l.most ≡ largest (counts l.kind l.cores l.n) l.s)
-
-abbrev pub decreases-loop-s : goal.decreases-loop-s
-decreases-loop-s l = l.kinds - l.s
+invariant-loop-s l = l.most ≡ largest (counts l.kind l.cores l.n) l.s

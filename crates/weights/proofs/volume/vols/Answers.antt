@@ -1,14 +1,13 @@
 use mathlib.Core.Path.{◌≡◌, refl}
-use Prim.Native.Nat.{◌-◌, ◌≤◌, ◌<◌}
+use Prim.Native.Nat.{◌≤◌, ◌<◌}
 use native.Mathlib.Omega.{arith}
-use borrow.Author.Rules.{rules}
 use lib.ListN.{get_or}
 use Rattle.weights.proofs.Volumes.{added_none, added_more, vol-small}
 use Rattle.weights.proofs.volume.vols.Goals as goal
 use Rattle.weights.proofs.volume.vols.Goals.{In-loop-v}
 
 pub loop-v-init : goal.loop-v-init
-loop-v-init c = (search rules, added_none _ _ _ _)
+loop-v-init c = added_none _ _ _ _
 
 -- the kind of v, its WCET, and what there is of that kind so far
 kind-of : (c : In-loop-v) → get_or c.args.kind.now c.loop-v.v 0 < 10
@@ -25,7 +24,7 @@ so_far c =
     let a = c.args in
     let l = c.loop-v in
     let s = get_or a.kind.now l.v 0 in
-    omega (arith, l.invariant.1.sums s (kind-of c), vol-small a.kind.now a.wcet.now a.cores.now a.kinds a.n c.requires l.v s l.invariant.0, c.requires.few_vertices)
+    omega (arith, l.invariant.sums s (kind-of c), vol-small a.kind.now a.wcet.now a.cores.now a.kinds a.n c.requires l.v s (omega arith), c.requires.few_vertices)
 
 pub overflow_cast-s : goal.overflow_cast-s
 overflow_cast-s c = omega (arith, kind-of (goal.at.overflow_cast-s c).In-loop-v)
@@ -52,9 +51,9 @@ pub loop-v-preserved : goal.loop-v-preserved
 loop-v-preserved c =
     let l = c.loop-v in
     let a = c.args in
-    (search rules, added_more a.kind.now a.wcet.now a.cores.now a.kinds l.sums l.v (get_or a.kind.now l.v 0) _ (kind-of (goal.at.loop-v-preserved c).In-loop-v) refl refl l.invariant.1)
+    added_more a.kind.now a.wcet.now a.cores.now a.kinds l.sums l.v (get_or a.kind.now l.v 0) _ (kind-of (goal.at.loop-v-preserved c).In-loop-v) refl refl l.invariant
 
 pub returns : goal.returns
 returns c =
     let e : c.loop-v.v ≡ c.args.n = omega arith in
-    (rw e at c.loop-v.invariant.1).sums
+    (rw e at c.loop-v.invariant).sums

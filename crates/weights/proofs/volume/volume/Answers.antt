@@ -1,5 +1,5 @@
 use mathlib.Core.Path.{◌≡◌, refl, ap, ap₂, sym, ◌∙◌}
-use Prim.Native.Nat.{ℕ, ◌+◌, ◌-◌, ◌*◌, ◌/◌, ◌≤◌}
+use Prim.Native.Nat.{ℕ, ◌+◌, ◌*◌, ◌/◌, ◌≤◌}
 use native.Mathlib.Nat.{div-le_self}
 use native.Mathlib.Numerals.{add-one}
 use native.Mathlib.Omega.{arith}
@@ -15,7 +15,7 @@ use Rattle.weights.proofs.volume.volume.Goals.{After-over-share, In-loop-s}
 
 pub loop-s-init : goal.loop-s-init
 unfolding sum
-loop-s-init c = (search rules, (search rules, refl))
+loop-s-init c = (search rules, refl)
 
 pub offset_bounds-ticks-s : goal.offset_bounds-ticks-s
 offset_bounds-ticks-s c = omega (arith, c.requires.few_kinds)
@@ -62,10 +62,10 @@ loop-s-preserved c =
     let a = c.args in
     let f : ℕ → ℕ = λ k. vol (stages a.kind.now a.wcet.now a.cores.now a.kinds a.n) k * PARTS / get_or a.cores.now k 0 in
     let t = ap (λ (x : ℕ). x * PARTS / get_or a.cores.now l.s 0) (ticks-of (goal.at.loop-s-preserved c).In-loop-s) in
-    (search rules, (omega (arith, small (goal.at.loop-s-preserved c).After-over-share, c.plus-total.ensures), c.plus-total.ensures ∙ ap₂ (λ (x y : ℕ). x + y) l.invariant.1.1 (is (goal.at.loop-s-preserved c).After-over-share ∙ t) ∙ sym (sum_more f l.s) ∙ ap (sum f) (sym (add-one l.s))))
+    (omega (arith, small (goal.at.loop-s-preserved c).After-over-share, c.plus-total.ensures), c.plus-total.ensures ∙ ap₂ (λ (x y : ℕ). x + y) l.invariant.1 (is (goal.at.loop-s-preserved c).After-over-share ∙ t) ∙ sym (sum_more f l.s) ∙ ap (sum f) (sym (add-one l.s)))
 
 pub returns : goal.returns
 unfolding volume
 returns c =
     let e : c.loop-s.s ≡ c.args.kinds = omega arith in
-    record { result_value = c.loop-s.invariant.1.1 ∙ ap (sum _) e; result_bound = omega (arith, c.requires.few_kinds) }
+    record { result_value = c.loop-s.invariant.1 ∙ ap (sum _) e; result_bound = omega (arith, c.requires.few_kinds) }

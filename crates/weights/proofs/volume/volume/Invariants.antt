@@ -1,5 +1,5 @@
 use mathlib.Core.Path.{◌≡◌}
-use Prim.Native.Nat.{◌-◌, ◌*◌, ◌/◌, ◌≤◌}
+use Prim.Native.Nat.{◌*◌, ◌/◌, ◌≤◌}
 use lib.ListN.{get_or}
 use Rattle.model.specs.Places.{sum}
 use Rattle.model.specs.Bounds.{PARTS, vol}
@@ -8,7 +8,4 @@ use Rattle.weights.proofs.volume.volume.Given as goal
 
 abbrev pub invariant-loop-s : goal.invariant-loop-s
 invariant-loop-s l =
-    (l.s ≤ l.kinds) × ((l.total.0 ≤ 92252160000000 * l.s) × (l.total.0 ≡ sum (λ k. vol (stages l.kind l.wcet l.cores l.kinds l.n) k * PARTS / get_or l.cores k 0) l.s))
-
-abbrev pub decreases-loop-s : goal.decreases-loop-s
-decreases-loop-s l = l.kinds - l.s
+    ((l.total.0 ≤ 92252160000000 * l.s) × (l.total.0 ≡ sum (λ k. vol (stages l.kind l.wcet l.cores l.kinds l.n) k * PARTS / get_or l.cores k 0) l.s))

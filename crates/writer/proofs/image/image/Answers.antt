@@ -17,7 +17,7 @@ blank-length e = ap (λ (l : List ℕ). length l) e ∙ length-replicate {A = �
 pub loop-k-init : goal.loop-k-init
 loop-k-init c =
     let z = c.requires.t_value in
-    (search rules, z ∙ imaged-none _, blank-length z)
+    (z ∙ imaged-none _, blank-length z)
 
 pub copy-requires : goal.copy-requires
 copy-requires c =
@@ -33,13 +33,13 @@ loop-k-preserved c =
     let f = record_at_of g s.a s.b in
     let y = rw (r.ensures.1, r.ensures.0) at c.copy.ensures.after in
     let more = imaged-more f (record-length g s.a s.b) l.k (omega arith) in
-    (search rules, rw (y, l.invariant.2, l.invariant.1) more, rw (y, l.invariant.2, l.invariant.1, more) (imaged-length f (record-length g s.a s.b) (l.k + 1) (omega arith)))
+    (rw (y, l.invariant.1, l.invariant.0) more, rw (y, l.invariant.1, l.invariant.0, more) (imaged-length f (record-length g s.a s.b) (l.k + 1) (omega arith)))
 
 pub shape_of-t : goal.shape_of-t
-shape_of-t c = c.loop-k.invariant.2 ∙ sym (blank-length c.requires.t_value)
+shape_of-t c = c.loop-k.invariant.1 ∙ sym (blank-length c.requires.t_value)
 
 pub returns : goal.returns
 returns c =
     let s = c.args in
     let e : c.loop-k.k ≡ s.a + s.b + s.e = omega arith in
-    (rw (← e) c.loop-k.invariant.1, c.loop-k.invariant.2)
+    (rw (← e) c.loop-k.invariant.0, c.loop-k.invariant.1)

@@ -1,5 +1,4 @@
 use mathlib.Core.Path.{◌≡◌}
-use Prim.Native.Nat.{◌+◌, ◌-◌, ◌≤◌}
 use lib.ListN.{length}
 use Rattle.writer.specs.Lists.{lists}
 use Rattle.writer.specs.Image.{record_at_of, imaged}
@@ -7,7 +6,4 @@ use Rattle.writer.proofs.image.image.Given as goal
 
 abbrev pub invariant-loop-k : goal.invariant-loop-k
 invariant-loop-k l =
-    (l.k ≤ l.a + l.b + l.e) × (l.t ≡ imaged (record_at_of (lists l.cores l.kinds l.wcets l.edges) l.a l.b) l.k) × (length l.t ≡ 9320)
-
-abbrev pub decreases-loop-k : goal.decreases-loop-k
-decreases-loop-k l = l.n - l.k
+    (l.t ≡ imaged (record_at_of (lists l.cores l.kinds l.wcets l.edges) l.a l.b) l.k) × (length l.t ≡ 9320)

@@ -1,9 +1,0 @@
-use mathlib.Core.Path.{sym, ap}
-use Rattle.codes.specs.CodedRun.{coded_replay_of}
-use Rattle.codes.proofs.coded_replay.Goals as goal
-
-pub returns-in-Finish : goal.returns-in-Finish
-returns-in-Finish c = sym (ap coded_replay_of c.in-Finish.is)
-
-pub returns-in-Refused : goal.returns-in-Refused
-returns-in-Refused c = sym (ap coded_replay_of c.in-Refused.is)

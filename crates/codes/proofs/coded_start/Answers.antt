@@ -1,5 +1,0 @@
-use mathlib.Core.Path.{refl}
-use Rattle.codes.proofs.coded_start.Goals as goal
-
-pub returns : goal.returns
-returns c = rw (c.number.ensures, c.place.ensures) refl
