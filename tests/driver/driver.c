@@ -1,8 +1,9 @@
 /* Answers the requests of the tests from outside through include/planner.h, as the program `probe` answers them through the crates: a line
    for each. tests/README.md has the form of requests and lines.
 
-   An empty list is lent as a null pointer. Each answer is made on a stack of its own: where that takes more than the header says of the
-   entry, the program says so and ends with 1. With the word `stacks` it prints how much each entry took, instead of the lines. */
+   An empty list is lent as a null pointer. Each answer is made on a stack of its own: where less than 512 bytes are left
+   of what the header says of the entry, the program says so and ends with 1. With the word `stacks` it prints how much each entry took, instead
+   of the lines. */
 #include "planner.h"
 #include "stack.h"
 
@@ -13,7 +14,8 @@ long write(int to, const void *bytes, size_t count);
 void *memcpy(void *to, const void *from, size_t count);
 void *memset(void *bytes, int value, size_t count);
 
-enum { LONGEST_PAYLOAD = 262144, LARGEST_ROOM = 32768, PRESET = 0xA5 };
+/* SPARE is what the header leaves of each stack. */
+enum { LONGEST_PAYLOAD = 262144, LARGEST_ROOM = 32768, PRESET = 0xA5, SPARE = 512 };
 
 /* The line. */
 
@@ -538,7 +540,7 @@ int main(int count, char **arguments)
     }
     for (size_t i = 0; i < LETTERS; i++) {
         struct letter *l = &letters[i];
-        int too_much = l->taken > l->most || l->taken > SMALL_STACK;
+        int too_much = l->taken + SPARE > l->most || l->taken > SMALL_STACK;
         if (stacks || too_much)
             dprintf(stacks ? 1 : 2, "%s took %zu bytes of stack, planner.h says %zu\n", l->entry, l->taken, l->most);
         above |= too_much;

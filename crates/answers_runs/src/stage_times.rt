@@ -48,12 +48,8 @@ fn clocked(t: &[u8], v: usize, name: usize, times: Times) -> Result<Times, Fault
     Ok(with(times, v, t, texts::after(t, name), ticks))
 }
 
-// The line `NAME TICKS` that begins at the place; the names are those of the board text.
-fn line(t: &[u8], board: &[u8], names: Names, at: usize, times: Times) -> Result<Times, Fault> {
-    let first = texts::until(t, at, Sought::Word);
-    if !texts::is_word(t, first) {
-        return Ok(times);
-    }
+// The line `NAME TICKS` whose first word stands at the place; the names are those of the board text.
+fn line(t: &[u8], board: &[u8], names: Names, first: usize, times: Times) -> Result<Times, Fault> {
     match texts::find(board, &names.stage, names.stages, t, first) {
         Some(v) => clocked(t, v, first, times),
         None => Err(Fault {
@@ -68,7 +64,11 @@ fn named(t: &[u8], board: &[u8], names: Names, g: Graph) -> Result<Times, Fault>
     let mut times = full(g);
     let mut at = 0;
     while at < t.len() {
-        times = line(t, board, names, at, times)?;
+        let first = texts::until(t, at, Sought::Word);
+        // A line without a word is passed over here: handing the times on moves 2.6 KB, and a text may have some 65,500 such lines.
+        if texts::is_word(t, first) {
+            times = line(t, board, names, first, times)?;
+        }
         at = texts::next(t, at);
     }
     Ok(times)

@@ -1,4 +1,6 @@
 // A list of numbers of a byte, parted by commas, as an argument has it.
+ghost use Rattle.std.specs.Prelude.{◌≤◌};
+
 use faults::Wrong;
 use input::word;
 use texts::Sought;
@@ -20,11 +22,13 @@ impl Piece {
 }
 
 // Where the piece that begins at the place ends.
-fn until_comma(w: &[u8], at: usize) -> usize {
+fn until_comma(w: &[u8], at: usize) -> usize
+    ensures { at ≤ result }
+{
     let rest = texts::part(w, at, w.len());
     match rest.iter().position(|b| *b == b',') {
         Some(n) => at.saturating_add(n),
-        None => w.len(),
+        None => w.len().max(at),
     }
 }
 

@@ -1,6 +1,6 @@
 -- The lines of a text, as a pass meets them.
 use mathlib.Core.Path.{◌≡◌, refl, sym, ◌∙◌}
-use mathlib.Core.Bool.{true, false}
+use mathlib.Core.Bool.{Bool, true, false, not}
 use mathlib.Core.List.{List}
 use Prim.Native.Nat.{ℕ, zero, suc, ◌+◌, ◌≤◌, ◌<◌}
 use native.Mathlib.Numerals.{add-one}
@@ -9,12 +9,24 @@ use native.Mathlib.Decide.{ℕ_discrete}
 use lib.ListN.{length}
 use Rattle.std.specs.Prelude.{Result, Ok, Err}
 use Rattle.model.specs.Places.{pick}
-use Rattle.texts.specs.Text.{line_after}
-use Rattle.faults.specs.declared.Fault.{Fault}
+use Rattle.model.proofs.Bools.{not-is-true, not-false}
+use Rattle.texts.specs.declared.Sought.TheVariants.{Word}
+use Rattle.texts.specs.Text.{byte_at, ends, until, line_after}
 use Rattle.faults.specs.Faults.{then, begins}
 use Rattle.faults.proofs.Lines.{within-line, next-begins}
 use Rattle.board.specs.declared.Names.{Names}
-use Rattle.board.specs.Board.{nameless, line_of, lines_up_to}
+use Rattle.board.specs.declared.Flawed.{Flawed}
+use Rattle.board.specs.Board.{nameless, worded_line_of, line_of, lines_up_to}
+
+-- a line says what its words say, and nothing where it has none; b is whether it has one, f where its first stands
+module _ (t : List ℕ) (i : ℕ) (n : Names) (f : ℕ) (e : f ≡ until Word t i) (b : Bool) (q : b ≡ not (ends (byte_at t f))) where
+  pub line-worded : b ≡ true → worded_line_of t n f ≡ line_of t n i
+  unfolding line_of
+  line-worded h = rw (← e, not-is-true _ (sym q ∙ h)) refl
+
+  pub line-wordless : b ≡ false → Ok n ≡ line_of t n i
+  unfolding line_of
+  line-wordless h = rw (← e, not-false _ (sym q ∙ h)) refl
 
 module _ (t : List ℕ) where
   up-line : (i : ℕ) (n : Names) → lines_up_to t i ≡ Ok n → begins t i ≡ true → lines_up_to t (i + 1) ≡ line_of t n i
@@ -27,7 +39,7 @@ module _ (t : List ℕ) where
   up-skip i zero l f = let e : i ≡ 0 = omega arith in rw e refl
   up-skip i (suc j) l f = go (ℕ_discrete i (suc j)) (λ h. up-skip i j h (λ k p q. f k p (omega arith)))
     where
-      kept : (r : Result Names Fault) → then r (λ n. pick false (line_of t n j) (Ok n)) ≡ r
+      kept : (r : Result Names Flawed) → then r (λ n. pick false (line_of t n j) (Ok n)) ≡ r
       kept (Ok n) = refl
       kept (Err e) = refl
 
@@ -36,7 +48,7 @@ module _ (t : List ℕ) where
       go (no e) ih = rw (f j (omega arith) (omega arith)) (kept (lines_up_to t j)) ∙ ih (omega arith)
 
   -- nor after a fault
-  up-stop : (i j : ℕ) → i ≤ j → (e : Fault) → lines_up_to t i ≡ Err e → lines_up_to t j ≡ Err e
+  up-stop : (i j : ℕ) → i ≤ j → (e : Flawed) → lines_up_to t i ≡ Err e → lines_up_to t j ≡ Err e
   unfolding lines_up_to
   up-stop i zero l e h = let z : i ≡ 0 = omega arith in rw z at h
   up-stop i (suc j) l e h = go (ℕ_discrete i (suc j)) (λ m. up-stop i j m e h)
@@ -70,5 +82,5 @@ module _ (t : List ℕ) (at : ℕ) (n : Names) (r : Reading t at n) where
           ∙ sym e;
     })
 
-    pub reading_stops : (f : Fault) → Err f ≡ line_of t n at → Err f ≡ lines_up_to t (length t)
+    pub reading_stops : (f : Flawed) → Err f ≡ line_of t n at → Err f ≡ lines_up_to t (length t)
     reading_stops f e = sym (up-stop t (at + 1) (length t) (omega arith) f (up-line t at n r.so_far (r.start here) ∙ sym e))

@@ -5,7 +5,7 @@
 ghost use Rattle.std.specs.Prelude.{◌≡◌, ◌<◌, length};
 ghost use Rattle.model.specs.Places.{table};
 ghost use Rattle.board.specs.Lists.{as_number_of, cores_at_of, kind_at, wcet_at_of};
-ghost use Rattle.board.specs.Board.{nameless, with_kind_of, with_stage_of, kind_line_of, stage_line_of, line_of, lines_up_to, board_of};
+ghost use Rattle.board.specs.Board.{nameless, with_kind_of, with_stage_of, kind_line_of, stage_line_of, flawed_by, worded_line_of, lines_up_to, board_of};
 
 use faults::{Fault, Wrong};
 use texts::{NumberError, Sought};
@@ -35,35 +35,41 @@ pub fn nameless() -> Names
     }
 }
 
-// The names with one type more, whose name stands from a place up to another.
+// What is wrong with a text, and the names that were found before it: those of the lines above, and of the line itself a type or stage whose name is
+// in order.
+#[derive(Clone, Copy)]
+pub struct Flawed {
+    pub fault: Fault,
+    pub names: Names,
+}
+
+// One type more, whose name stands from a place up to another.
 #[tactic(auto, unfolding(crate::specs::Board::with_kind_of))]
-fn with_kind(mut names: Names, at: usize, end: usize) -> Names
-    requires { names.kinds < 10 }
-    ensures { result ≡ with_kind_of names at end }
+fn with_kind(names: &mut Names, at: usize, end: usize)
+    requires { names.old.kinds < 10 }
+    ensures { names.new ≡ with_kind_of names.old at end }
 {
     let k = names.kinds;
     names.kind[k] = at;
     names.kind_end[k] = end;
     names.kinds = k + 1;
-    names
 }
 
 #[tactic(auto, unfolding(crate::specs::Board::with_stage_of))]
-fn with_stage(mut names: Names, at: usize, end: usize) -> Names
-    requires { names.stages < 128 }
-    ensures { result ≡ with_stage_of names at end }
+fn with_stage(names: &mut Names, at: usize, end: usize)
+    requires { names.old.stages < 128 }
+    ensures { names.new ≡ with_stage_of names.old at end }
 {
-    let n = names.stages;
-    names.stage[n] = at;
-    names.stage_end[n] = end;
-    names.stages = n + 1;
-    names
+    let v = names.stages;
+    names.stage[v] = at;
+    names.stage_end[v] = end;
+    names.stages = v + 1;
 }
 
 // A line `cores NAME NUMBER`, whose first word stands at the place.
 #[tactic(auto, unfolding(crate::specs::Board::kind_line_of))]
-fn kind_line(t: &[u8], names: Names, at: usize) -> Result<Names, Fault>
-    ensures { result ≡ kind_line_of t.now names at }
+fn kind_line(t: &[u8], names: &mut Names, at: usize) -> Result<(), Fault>
+    ensures { flawed_by names.new result ≡ kind_line_of t.now names.old at }
 {
     let name = texts::after(t, at);
     if !texts::is_word(t, name) {
@@ -72,44 +78,40 @@ fn kind_line(t: &[u8], names: Names, at: usize) -> Result<Names, Fault>
             at,
         });
     }
-    let kind = names.kind;
-    faults::of_name(t, name, &kind, names.kinds, Wrong::KindTwice)?;
+    faults::of_name(t, name, &names.kind, names.kinds, Wrong::KindTwice)?;
     if names.kinds >= 10 {
         return Err(Fault {
             what: Wrong::KindMany,
             at: name,
         });
     }
+    with_kind(names, name, texts::until(t, name, Sought::End));
     faults::of_number_alone(t, name, 255)?;
-    Ok(with_kind(names, name, texts::until(t, name, Sought::End)))
+    Ok(())
 }
 
 // A line `NAME TYPE WCET [WAITS-FOR..]`, whose first word stands at the place.
 #[tactic(auto, unfolding(crate::specs::Board::stage_line_of))]
-fn stage_line(t: &[u8], names: Names, at: usize) -> Result<Names, Fault>
-    ensures { result ≡ stage_line_of t.now names at }
+fn stage_line(t: &[u8], names: &mut Names, at: usize) -> Result<(), Fault>
+    ensures { flawed_by names.new result ≡ stage_line_of t.now names.old at }
 {
-    let stage = names.stage;
-    faults::of_name(t, at, &stage, names.stages, Wrong::StageTwice)?;
+    faults::of_name(t, at, &names.stage, names.stages, Wrong::StageTwice)?;
     if names.stages >= 128 {
         return Err(Fault {
             what: Wrong::StageMany,
             at,
         });
     }
+    with_stage(names, at, texts::until(t, at, Sought::End));
     faults::of_stage(t, at)?;
-    Ok(with_stage(names, at, texts::until(t, at, Sought::End)))
+    Ok(())
 }
 
-// The names with those of the line that begins at the place.
-#[tactic(auto, unfolding(crate::specs::Board::line_of))]
-fn line(t: &[u8], names: Names, at: usize) -> Result<Names, Fault>
-    ensures { result ≡ line_of t.now names at }
+// The names of the line whose first word stands at the place, laid beside those that were found before. They are lent: handed on by value they
+// would be moved for each line, 2 KB.
+fn line(t: &[u8], names: &mut Names, first: usize) -> Result<(), Fault>
+    ensures { flawed_by names.new result ≡ worded_line_of t.now names.old first }
 {
-    let first = texts::until(t, at, Sought::Word);
-    if !texts::is_word(t, first) {
-        return Ok(names);
-    }
     if texts::word_is(t, first, b"cores") {
         kind_line(t, names, first)
     } else {
@@ -117,26 +119,37 @@ fn line(t: &[u8], names: Names, at: usize) -> Result<Names, Fault>
     }
 }
 
-// The names of the lines, or the first fault.
-fn lines(t: &[u8]) -> Result<Names, Fault>
+// The names of the lines, or the first fault and the names up to it.
+fn lines(t: &[u8]) -> Result<Names, Flawed>
     ensures { result ≡ lines_up_to t.now (length t.now) }
 {
     let mut names = nameless();
     let mut at = 0;
     while at < t.len() {
-        names = line(t, names, at)?;
+        let first = texts::until(t, at, Sought::Word);
+        if texts::is_word(t, first) {
+            if let Err(fault) = line(t, &mut names, first) {
+                return Err(Flawed { fault, names });
+            }
+        }
         at = texts::next(t, at);
     }
     Ok(names)
 }
 
-// The names of the types and stages of a text, or the first thing wrong with it but for the types and stages that its stages name.
+// The names of the types and stages of a text, or the first thing wrong with it but for the types and stages that its stages name, and the names
+// found before that.
 #[tactic(auto, unfolding(crate::specs::Board::board_of))]
-pub fn read(t: &[u8]) -> Result<Names, Fault>
+pub fn read(t: &[u8]) -> Result<Names, Flawed>
     ensures { result ≡ board_of t.now }
 {
-    faults::of_text(t)?;
-    lines(t)
+    match faults::of_text(t) {
+        Ok(()) => lines(t),
+        Err(fault) => Err(Flawed {
+            fault,
+            names: nameless(),
+        }),
+    }
 }
 
 // A number of a text without a fault. What else is given for none, 1, and for one that is too large, 0, is asked for in no such text.

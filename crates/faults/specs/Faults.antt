@@ -10,7 +10,8 @@
 --   long_line t i            whether a line that begins at place i has more than 4,096 bytes
 --   line_fault t             the first line that is too long
 --   text_fault t             what is wrong with a text as such: its length, its bytes, its lines' lengths
---   at_most m i r            the number that r is, where it is at most m; else what is wrong with the word at place i
+--   at_most m i r            the number that r is, where it is at most m; else what is wrong with the word at place i. A number that 32 bits don't hold
+--                           is above each m that they hold, and within each that they don't: then the largest that they hold stands for it
 --   number_fault t i m       the word at place i as a number of at most m, or what is wrong with it
 --   name_fault t i l n e     what is wrong with the word at place i as a new name beside the first n of the list l: too long, there already (e)
 --   alone_fault t i m        what follows the word at place i, a number of at most m and nothing else, or what is wrong with it
@@ -35,7 +36,7 @@ abbrev pub wrong_number : NumberError → Wrong
 wrong_number NotDigits = NoNumber
 wrong_number TooLarge = Large
 
-abbrev pub then : {A B : Type 0} → Result A Fault → (A → Result B Fault) → Result B Fault
+abbrev pub then : {A B E : Type 0} → Result A E → (A → Result B E) → Result B E
 then (Ok x) f = f x
 then (Err e) f = Err e
 
@@ -55,7 +56,8 @@ text_fault t =
 
 abbrev pub at_most : ℕ → ℕ → Result ℕ NumberError → Result ℕ Fault
 at_most m i (Ok n) = pick (ltb m n) (Err (fault Large i)) (Ok n)
-at_most m i (Err e) = Err (fault (wrong_number e) i)
+at_most m i (Err TooLarge) = pick (ltb 4294967295 m) (Ok 4294967295) (Err (fault Large i))
+at_most m i (Err NotDigits) = Err (fault NoNumber i)
 
 abbrev pub number_fault : List ℕ → ℕ → ℕ → Result ℕ Fault
 number_fault t i m = at_most m i (number_of (word_at t i))

@@ -100,7 +100,8 @@ pub fn of_text(t: &[u8]) -> Result<(), Fault>
     of_lines(t)
 }
 
-// The word at the place as a number; what is wrong with it where it is none, or above the most.
+// The word at the place as a number; what is wrong with it where it is none, or above the most. A number that 32 bits don't hold is above each most
+// that they hold, and within each that they don't: then 4,294,967,295 stands for it, the largest that they hold.
 pub fn of_number(t: &[u8], at: usize, most: u64) -> Result<u32, Fault>
     ensures { result ≡ number_fault t.now at most }
 {
@@ -114,6 +115,7 @@ pub fn of_number(t: &[u8], at: usize, most: u64) -> Result<u32, Fault>
             }
             Ok(n)
         }
+        Err(NumberError::TooLarge) if most > 4294967295 => Ok(4294967295),
         Err(e) => Err(Fault {
             what: Wrong::from(e),
             at,
@@ -138,7 +140,7 @@ pub fn of_name(t: &[u8], at: usize, names: &[usize], n: usize, twice: Wrong) -> 
     }
 }
 
-// The number of at most so much that follows the word at the place; what is wrong where none does, or something else too.
+// The number of at most so much that follows the word at the place, as `of_number` says it; what is wrong where none does, or something else too.
 #[tactic(auto, unfolding(crate::specs::Faults::alone_fault))]
 pub fn of_number_alone(t: &[u8], at: usize, most: u64) -> Result<u32, Fault>
     ensures { result ≡ alone_fault t.now at most }

@@ -16,14 +16,14 @@ use Rattle.model.proofs.Bools.{cases, le-or-lt}
 use Rattle.model.proofs.Places.{count_none}
 use Rattle.graph.specs.File.{records}
 use Rattle.graph.specs.Model.{as_model}
-use Rattle.reader.specs.Laid.{Usable}
+use Rattle.graph.specs.declared.Graph.{Graph}
 use Rattle.reader.specs.declared.Laid.{Laid}
 use Rattle.ready.proofs.ByNumbers.{layout}
 use Rattle.choice.proofs.ByKind.{kinds-known}
 use Rattle.vset.specs.declared.Vset.{Vset}
 use Rattle.vset.specs.Members.{is_in, Members}
 use Rattle.vset.proofs.Gather.{members_ext}
-use Rattle.choice.specs.Choice.{of_kind_of, set_at_of}
+use Rattle.choice.specs.Choice.{of_kind_of, set_at_of, OfKinds}
 use Rattle.waiting.specs.Waiting.{edges_by, Layout, Settled}
 use Rattle.recorded.specs.Log.{is_start, who, running, InForm}
 use Rattle.recorded.proofs.Records.{Fine, fine-at}
@@ -31,27 +31,30 @@ use Rattle.recorded.proofs.Prefix.{running_none}
 use Rattle.formed.specs.Passing.{last_of, Lasted}
 use Rattle.formed.proofs.Passing.{switch_is}
 use Rattle.formed.proofs.Lasting.{later-record, record-later}
-use Rattle.frames.specs.Frames.{Lists, Used, used_by, full_by, Framed, crowded_by, MovedBy}
+use Rattle.frames.specs.Frames.{LentOf, Lists, Used, used_by, full_by, Framed, crowded_by, MovedBy}
 use Rattle.frames.specs.declared.Frame.{Frame}
 use Rattle.frames.proofs.Using.{used_other, used-next}
 
 -- ---- what the graph gives
 
-module _ {lent : Laid} (U : Usable lent) where
+module _ {g : Graph} {lent : Laid} (L : LentOf g lent) where
   few : lent.graph.n ≤ 128
-  few = U.accepted.few_vertices
+  few = rw L.n_is L.accepted.few_vertices
 
-  pub kinds-below : (v : ℕ) → v < lent.graph.n → get_or lent.graph.kind v 0 < 10
-  kinds-below = kinds-known lent.graph U.accepted
+  pub kinds-below : (lent.graph.n ≤ 128) × ((v : ℕ) → v < lent.graph.n → get_or lent.graph.kind v 0 < 10)
+  kinds-below = (few, rw (L.n_is, L.kind_is) (kinds-known g L.accepted))
 
   pub layout-of : Layout lent.graph.edge lent.starts
-  layout-of = rw U.along.starts (layout lent.graph U.accepted)
+  layout-of = rw (L.edges_are, L.starts_are) (layout g L.accepted)
+
+  pub lists : {l words lasts : List ℕ} → InForm lent.graph.n l → OfKinds words lent.graph.kind lent.graph.n → Lasted l (records l) lasts → Lists lent l words lasts
+  lists f w s = record { few = few; in_form = f; known = kinds-below.1; words_are = w; layout = layout-of; lasts_are = s }
 
   some_core : (v : ℕ) → v < lent.graph.n → 0 < get_or lent.graph.cores (get_or lent.graph.kind v 0) 0
   unfolding as_model
   some_core v h =
-      let W = U.accepted.well_formed in
-      W.some_core _ (W.kind_known v h)
+      let W = L.accepted.well_formed in
+      rw (L.cores_are, L.kind_is) (W.some_core _ (W.kind_known v (rw L.n_is at h)))
 
   -- before the first record nobody runs, so that every kind has an idle core
   module _ {l lasts : List ℕ} (f : InForm lent.graph.n l) (s : Lasted l (records l) lasts) where
@@ -106,7 +109,7 @@ module _ {lent : Laid} {l words lasts : List ℕ} (L : Lists lent l words lasts)
   was-busy = lt-ltb k (last_of l (who l k) (records l)) (record-later l (who l k) k h refl)
 
   last-known : get_or lasts (who l k) 0 ≡ last_of l (who l k) (records l)
-  last-known = L.lasts_are.at (who l k) (omega (arith, fine.vertex, few L.usable))
+  last-known = L.lasts_are.at (who l k) (omega (arith, fine.vertex, L.few))
 
   -- a vertex has no records to come where this one is its last
   pub busy-next : (u : ℕ) → ltb k (last_of l u (records l)) && not (eqb (get_or lasts (who l k) 0) (k + 1) && eqb u (who l k)) ≡ ltb (k + 1) (last_of l u (records l))
@@ -153,15 +156,15 @@ module _ {lent : Laid} {l words lasts : List ℕ} (L : Lists lent l words lasts)
       go (inr t) d = rw t refl
       go (inl t) (yes q) = rw (t, q, eq-eqb s s refl) refl
       go (inl t) (no q) =
-          rw (t, ne_eqb (get_or kind v 0) s q, add-one k) (ap (leb (get_or cores (get_or kind v 0) 0)) (sym (used_other kind L.in_form (few L.usable) k h (get_or kind v 0) q)))
+          rw (t, ne_eqb (get_or kind v 0) s q, add-one k) (ap (leb (get_or cores (get_or kind v 0) 0)) (sym (used_other kind L.in_form L.few k h (get_or kind v 0) q)))
 
   module _ (used waiting : List ℕ) (f : Frame) (F : Framed lent l k used waiting f) (many : ℕ)
       (many_is : many ≡ get_or used s 0 + 2 * bit (is_start l k) - 1) where
     kind_known : s < 10
-    kind_known = kinds-below L.usable (who l k) fine.vertex
+    kind_known = L.known (who l k) fine.vertex
 
     used-then : Used kind n l (k + 1) (set used s many)
-    used-then = rw many_is (used-next kind L.in_form (few L.usable) k h (kinds-below L.usable) used F.used_are)
+    used-then = rw many_is (used-next kind L.in_form L.few k h L.known used F.used_are)
 
     many-then : many ≡ used_by kind n l (k + 1) s
     many-then = sym (get_or-set_same used s many 0 (omega (arith, kind_known, F.used_are.size))) ∙ used-then.at s kind_known

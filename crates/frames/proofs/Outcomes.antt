@@ -18,4 +18,4 @@ faults_unique G l k r r' p q = λ i. record {
 }
 
 pub first_faults_one : OneOutcome first-faults.ended first-faults-reads.Pre first-faults-reads.Post
-first_faults_one κs a r r' ws ws' pre p q = (faults_unique _ _ _ r r' p q, refl)
+first_faults_one κs a r r' ws ws' pre p q = let g = pre.0 in (faults_unique _ _ _ r r' (p g.0 g.1) (q g.0 g.1), refl)

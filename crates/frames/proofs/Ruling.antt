@@ -27,7 +27,6 @@ use Rattle.model.proofs.Tests.{finished-tells}
 use Rattle.graph.specs.File.{records}
 use Rattle.graph.specs.Model.{as_model, AcceptedGraph}
 use Rattle.graph.specs.declared.Graph.{Graph}
-use Rattle.reader.specs.Laid.{Usable}
 use Rattle.reader.specs.declared.Laid.{Laid}
 use Rattle.vset.specs.Members.{is_in}
 use Rattle.ready.specs.Ready.{is_behind}
@@ -43,7 +42,7 @@ use Rattle.recorded.proofs.Seen.{idle-on}
 use Rattle.formed.specs.Passing.{clock_at}
 use Rattle.formed.proofs.Clocks.{clock_zero, clock_plus, clock_up, clock_before, clock_after}
 use Rattle.formed.proofs.Lasting.{Parted, left-later-record, later-record}
-use Rattle.frames.specs.Frames.{used_by, full_by, Framed, idles, crowded_by, MovedBy, FaultsBy, PassedBy}
+use Rattle.frames.specs.Frames.{LentOf, used_by, full_by, Framed, idles, crowded_by, MovedBy, FaultsBy, PassedBy}
 use Rattle.frames.specs.declared.Frame.{Frame}
 use Rattle.frames.specs.declared.Moved.{Moved}
 use Rattle.frames.specs.declared.Faults.{Faults}
@@ -86,11 +85,8 @@ early-is {G} W A c v l = same_test (any (λ u. G.edge u v && not (finished G c u
                 wrong (inl q) f = omega (arith, rw q at (ltb-true 0 (c w) p), fin_left f)
                 wrong (inr z) f = omega (arith, ltb-true 0 (c w) p, fin_ancestor z f)
 
-module _ {lent : Laid} (U : Usable lent) {l : List ℕ} (f : InForm lent.graph.n l) (k : ℕ) (h : k < records l)
+module _ (g : Graph) {lent : Laid} (L : LentOf g lent) {l : List ℕ} (f : InForm lent.graph.n l) (k : ℕ) (h : k < records l)
     (used wait : List ℕ) (x : Frame) (F : Framed lent l k used wait x) where
-  abbrev g : Graph
-  g = lent.graph
-
   abbrev n : ℕ
   n = lent.graph.n
 
@@ -101,10 +97,10 @@ module _ {lent : Laid} (U : Usable lent) {l : List ℕ} (f : InForm lent.graph.n
   cores = lent.graph.cores
 
   A : AcceptedGraph g
-  A = U.accepted
+  A = L.accepted
 
   few : n ≤ 128
-  few = A.few_vertices
+  few = rw L.n_is A.few_vertices
 
   abbrev G : model.Graph
   G = as_model g
@@ -112,7 +108,7 @@ module _ {lent : Laid} (U : Usable lent) {l : List ℕ} (f : InForm lent.graph.n
   -- where the frame tells who has ticks left at t, it tells who stands behind one that has
   behind-at : (t : ℕ) → ((v : ℕ) → Parted l v t k) → (v : ℕ) → is_in x.behind v ≡ is_behind G (λ u. ltb 0 (left (schedule_of l) t u)) v
   behind-at t parted v =
-      settled-behind g A wait (is_in x.busy) x.behind (rw (U.along.starts, edges-counted g A) at F.settled) v
+      settled-behind g A wait (is_in x.busy) x.behind (rw (L.edges_are, L.starts_are, edges-counted g A) at F.settled) v
       ∙ ap (λ (p : ℕ → Bool). is_behind G p v) (fun_ext (λ u. F.busy_are.are u ∙ sym (left-later-record f few u t k (parted u))))
 
   -- ---- 19
@@ -132,7 +128,7 @@ module _ {lent : Laid} (U : Usable lent) {l : List ℕ} (f : InForm lent.graph.n
   rule19-is = go (cases (is_start l k))
     where
       v : who l k < g.n
-      v = (fine-at f k h).vertex
+      v = omega (arith, (fine-at f k h).vertex, L.n_is)
 
       go : (is_start l k ≡ true) ⊎ (is_start l k ≡ false) → is_start l k && is_in x.behind (who l k)
           ≡ is_start l k && any (λ u. G.edge u (who l k) && not (finished G (left (schedule_of l) (instant_at l k)) u)) g.n
@@ -144,7 +140,7 @@ module _ {lent : Laid} (U : Usable lent) {l : List ℕ} (f : InForm lent.graph.n
 
   pub rule20-is : crowded_by kind cores n l k ≡ rule20 G l k
   unfolding rule20 crowded_by used_by as_model
-  rule20-is = rw (add-one k) refl
+  rule20-is = rw (L.kind_is, L.cores_are, L.n_is, add-one k) refl
 
   -- ---- 22
 
@@ -193,11 +189,11 @@ module _ {lent : Laid} (U : Usable lent) {l : List ℕ} (f : InForm lent.graph.n
         && ltb (count (λ u. runs_in l (clock_at l k) u && eqb (get_or kind u 0) (get_or kind v 0)) n) (get_or cores (get_or kind v 0) 0)
 
     each : (v : ℕ) → v < n → idles x v ≡ rule v
-    each v b = rw (able_is v b, on-is v, idle-is v b) refl
+    each v b = rw (able_is v (omega (arith, L.n_is)), on-is v, idle-is v b) refl
 
     pub rule22-is : any (idles x) 128 ≡ rule22 G l (clock_at l k)
     unfolding rule22 waiting as_model
-    rule22-is = go
+    rule22-is = go ∙ rw (L.kind_is, L.cores_are, L.n_is) refl
       where
         go : any (idles x) 128 ≡ any rule n
         go = same_test (any (idles x) 128) (any rule n)
@@ -215,7 +211,7 @@ module _ {lent : Laid} (U : Usable lent) {l : List ℕ} (f : InForm lent.graph.n
       rw e (idle-on G form (d + clock_at l k) none ∙ same-between d (omega arith))
     where
       form : InForm G.n l
-      form = unfold as_model in f
+      form = unfold as_model in rw (← L.n_is) f
 
       none : (i : ℕ) → i < records l → instant_at l i ≡ suc (d + clock_at l k) → ⊥
       none i b q = ⊎_elim (λ (y : k ≤ i). omega (arith, clock_after f few k h i y b)) (λ (y : i < k). omega (arith, clock_before f few k h i y)) (le-or-lt k i)
@@ -248,19 +244,19 @@ pub passed_none : {lent : Laid} {l used wait : List ℕ} (p : Pass) → Framed l
 passed_none {l = l} p F e c = record {
   framed = F;
   clock_is = c ∙ sym (clock_zero l);
-  found = rw e (record { early = first_in-none _; crowded = first_in-none _; idle = rw (clock_zero l) (first_in-none _) });
+  found = λ g L. rw e (record { early = first_in-none _; crowded = first_in-none _; idle = rw (clock_zero l) (first_in-none _) });
 }
 
-pub passed_next : {lent : Laid} {l : List ℕ} → Usable lent → InForm lent.graph.n l → (k : ℕ) → k < records l → {used wait after later : List ℕ} (p : Pass)
+pub passed_next : {lent : Laid} {l : List ℕ} → InForm lent.graph.n l → (k : ℕ) → k < records l → {used wait after later : List ℕ} (p : Pass)
     → PassedBy lent l k used wait p → (m : Moved) → MovedBy lent l k after later m
     → (at_start waits : Bool) → at_start ≡ is_start l k && is_in p.frame.behind (who l k) → waits ≡ any (idles p.frame) 128
     → (t : ℕ) (early crowded idle : Option ℕ) → t ≡ instant_at l k → early ≡ option_or p.faults.early (then_some at_start k)
     → crowded ≡ option_or p.faults.crowded (then_some m.crowded k)
     → idle ≡ option_or p.faults.idle (then_some (waits && ltb p.clock t) p.clock)
     → PassedBy lent l (k + 1) after later (record { frame = m.frame; faults = record { early = early; crowded = crowded; idle = idle }; clock = t })
-passed_next {l = l} U f k h {used} {wait} p P m M at_start waits s w t early crowded idle q a b c = record {
+passed_next {l = l} f k h {used} {wait} p P m M at_start waits s w t early crowded idle q a b c = record {
   framed = M.framed;
   clock_is = q ∙ sym (clock_plus l k);
-  found = rw (a, b, c, q, P.clock_is)
-      (faults-next U f k h used wait p.frame P.framed p.faults P.found at_start waits m.crowded s w M.crowded_is);
+  found = λ g L. rw (a, b, c, q, P.clock_is)
+      (faults-next g L f k h used wait p.frame P.framed p.faults (P.found g L) at_start waits m.crowded s w M.crowded_is);
 }

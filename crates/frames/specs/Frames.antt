@@ -3,6 +3,7 @@
 -- What the pass over a log in form has between two records. `lent` is the graph that was laid, `l` the log, n how many vertices there are, k how
 -- many records are passed.
 --
+--   LentOf g lent               what is lent is of the graph g, which is accepted
 --   Lists lent l words lasts     what a step goes by
 --   used_by kind n l k s         how many vertices of kind s run
 --   Used kind n l k used        the list has these numbers
@@ -14,16 +15,17 @@
 --   FirstIn p m o               o is the first place below m at which p holds, or None
 --   FaultsBy G l k r            r holds the first places of 19, 20 and 22, as far as k records tell them
 --   PassedBy lent l k used waiting p   a pass: how it stands, the instant of the record before, and what is found of the graph
-use Rattle.std.specs.Prelude.{◌≡◌, Bool, not, ◌&&◌, List, ℕ, ◌+◌, ◌<◌, length, get_or, eqb, ltb, leb, Option, Some, None}
-use Rattle.model.specs.Places.{first, count}
+use Rattle.std.specs.Prelude.{◌≡◌, Bool, not, ◌&&◌, List, ℕ, ◌+◌, ◌≤◌, ◌<◌, length, get_or, eqb, ltb, leb, Option, Some, None}
+use Rattle.model.specs.Places.{first, count, table}
 use Rattle.model.specs.Graph as model
 use Rattle.graph.specs.File.{records}
-use Rattle.graph.specs.Model.{as_model}
-use Rattle.reader.specs.Laid.{Usable}
+use Rattle.graph.specs.Model.{as_model, AcceptedGraph}
+use Rattle.graph.specs.declared.Graph.{Graph}
 use Rattle.reader.specs.declared.Laid.{Laid}
 use Rattle.vset.specs.Members.{is_in, Members}
+use Rattle.starts.specs.Starts.{first_edge}
 use Rattle.choice.specs.Choice.{OfKinds}
-use Rattle.waiting.specs.Waiting.{edges_by, Settled}
+use Rattle.waiting.specs.Waiting.{edges_by, Layout, Settled}
 use Rattle.recorded.specs.Log.{is_start, who, running, InForm}
 use Rattle.recorded.specs.Rules.{rule19, rule20, rule22}
 use Rattle.formed.specs.Passing.{clock_at, last_of, Lasted}
@@ -32,10 +34,20 @@ use Rattle.frames.specs.declared.Moved.{Moved}
 use Rattle.frames.specs.declared.Faults.{Faults}
 use Rattle.frames.specs.declared.Pass.{Pass}
 
+pub record LentOf (g : Graph) (lent : Laid) : Type 0 where
+  pub accepted : AcceptedGraph g
+  pub n_is : lent.graph.n ≡ g.n
+  pub cores_are : lent.graph.cores ≡ g.cores
+  pub kind_is : lent.graph.kind ≡ g.kind
+  pub edges_are : lent.graph.edge ≡ g.edge
+  pub starts_are : lent.starts ≡ table (first_edge g) 129
+
 pub record Lists (lent : Laid) (l words lasts : List ℕ) : Type 0 where
-  pub usable : Usable lent
+  pub few : lent.graph.n ≤ 128
   pub in_form : InForm lent.graph.n l
+  pub known : (v : ℕ) → v < lent.graph.n → get_or lent.graph.kind v 0 < 10
   pub words_are : OfKinds words lent.graph.kind lent.graph.n
+  pub layout : Layout lent.graph.edge lent.starts
   pub lasts_are : Lasted l (records l) lasts
 
 unfoldable pub used_by : List ℕ → ℕ → List ℕ → ℕ → ℕ → ℕ
@@ -79,4 +91,4 @@ pub record FaultsBy (G : model.Graph) (l : List ℕ) (k : ℕ) (r : Faults) : Ty
 pub record PassedBy (lent : Laid) (l : List ℕ) (k : ℕ) (used waiting : List ℕ) (p : Pass) : Type 0 where
   pub framed : Framed lent l k used waiting p.frame
   pub clock_is : p.clock ≡ clock_at l k
-  pub found : FaultsBy (as_model lent.graph) l k p.faults
+  pub found : (g : Graph) → LentOf g lent → FaultsBy (as_model g) l k p.faults

@@ -5,14 +5,16 @@
 
 ghost use Rattle.std.specs.Prelude.{◌≡◌, true, false, not, ◌&&◌, ◌+◌, ◌*◌, ◌≤◌, ◌<◌, eqb, ltb, get_or, length};
 ghost use Rattle.model.specs.Places.{pick, any};
+ghost use Rattle.graph.specs.declared.Graph.{Graph};
 ghost use Rattle.graph.specs.Model.{as_model};
 ghost use Rattle.graph.specs.File.{records};
-ghost use Rattle.reader.specs.Laid.{Usable};
 ghost use Rattle.vset.specs.Members.{is_in, Members};
+ghost use Rattle.sets.specs.Sets.{Holds};
+ghost use Rattle.rows.specs.Rows.{predecessor};
 ghost use Rattle.waiting.specs.Waiting.{edges_by, Layout, Settled};
 ghost use Rattle.recorded.specs.Log.{InForm};
 ghost use Rattle.formed.specs.Passing.{Lasted};
-ghost use Rattle.frames.specs.Frames.{Lists, Framed, idles, MovedBy, FaultsBy, PassedBy};
+ghost use Rattle.frames.specs.Frames.{LentOf, Lists, Framed, idles, MovedBy, FaultsBy, PassedBy};
 
 use reader::Laid;
 use vset::Vset;
@@ -215,10 +217,11 @@ fn outset(busy: Vset, behind: Vset) -> Pass
     }
 }
 
+// Neither an order of the vertices nor a WCET is looked at, so that nothing is asked of them.
 pub fn first_faults(log: &[u8], laid: &Laid, lasts: &[u16; 128]) -> Faults
-    requires usable { Usable laid.now }
+    requires lent_of { (g : Graph) × LentOf g laid.now × Holds laid.now.pred (predecessor g.edge g.edges) }
     requires in_form { InForm laid.now.graph.n log.now × Lasted log.now (records log.now) lasts.now }
-    ensures { FaultsBy (as_model laid.now.graph) log.now (records log.now) result }
+    ensures { (g : Graph) → LentOf g laid.now → FaultsBy (as_model g) log.now (records log.now) result }
 {
     let g = &laid.graph;
     let words = choice::of_kinds(&g.kind, g.n);

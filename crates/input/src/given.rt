@@ -74,6 +74,6 @@ pub fn file(
     }
     match board::read(t) {
         Ok(names) => looked_up(rt, k, t, names, json, room),
-        Err(f) => Err(crate::no(reasons::fault::of_board(rt, k, t, f, json))),
+        Err(flawed) => Err(crate::no(reasons::fault::of_board(rt, k, t, flawed.fault, json))),
     }
 }

@@ -4,7 +4,7 @@ use faults::Wrong;
 use texts::Sought;
 
 // Whether it is one word, or nothing: only such a one can be a name or a number.
-fn is_one(w: &[u8]) -> bool {
+pub fn is_one(w: &[u8]) -> bool {
     texts::until(w, 0, Sought::End) == w.len()
 }
 

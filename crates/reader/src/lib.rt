@@ -136,11 +136,12 @@ pub fn read(file: &[u8]) -> Result<Graph, Refusal>
 // along the edges are found again.
 pub fn along_rows(g: Graph, laid: &mut Laid)
     requires accepted_graph { AcceptedGraph g }
-    requires blank { Blank laid.old }
+    requires pred_value { laid.old.pred ≡ empty }
     ensures { LaidOut g laid.new }
 {
     laid.starts = starts::starts(&g.edge, g.edges);
     rows::predecessors(&g.edge, g.edges, &mut laid.pred);
+    laid.order = [0; 128];
     cycle::cyclic(
         &g.edge,
         &laid.starts,

@@ -3,7 +3,7 @@ use mathlib.Core.Path.{◌≡◌, sym}
 use mathlib.Core.Bool.{true, false}
 use mathlib.Core.Logic.{⊎_elim}
 use mathlib.Core.List.{List}
-use Prim.Native.Nat.{ℕ, ◌+◌, ◌-◌, ◌/◌, ◌≤◌, ◌<◌}
+use Prim.Native.Nat.{ℕ, zero, suc, ◌+◌, ◌-◌, ◌/◌, ◌≤◌, ◌<◌}
 use native.Mathlib.Omega.{arith}
 use lib.ListN.{get_or}
 use borrow.Author.Tests.{leb-true, leb-false}
@@ -63,6 +63,12 @@ start-later l m u =
     let b = leb-false u (get_or l k 0 / 256) (first_below (not_below l u) m k h) in
     absurd (omega (arith, a, b)))
     (le-or-lt (first (not_below l u) m) (first (not_below l (u + 1)) m))
+
+pub start-rises : (l : List ℕ) (m u d : ℕ) → start_in l m u ≤ start_in l m (u + d)
+start-rises l m u zero = let e : u + zero ≡ u = omega arith in rw e (omega arith)
+start-rises l m u (suc d) =
+    let e : u + suc d ≡ u + d + 1 = omega arith in
+    rw e (omega (arith, start-rises l m u d, start-later l m (u + d)))
 
 -- the edges of an accepted graph are laid out
 pub accepted-rows : {g : Graph} → AcceptedGraph g → {st : List ℕ} → st ≡ table (first_edge g) 129 → Rows g.edge g.edges g.n st

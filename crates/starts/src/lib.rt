@@ -32,14 +32,18 @@ fn start(edge: &[u16; 1024], edges: usize, u: usize, i: usize) -> usize
     edges
 }
 
-// The starts of all vertices, and that of 128, where the edges of 127 end. Past the last vertex that has edges they are all the same.
+// The starts of all vertices, and that of 128, where the edges of 127 end. Past the last vertex that has edges they are all the same, as they
+// stand at first.
 pub fn starts(edge: &[u16; 1024], edges: usize) -> [u16; 129]
     requires { edges ≤ 1024 }
     ensures { result ≡ table (start_in edge.now edges) 129 }
 {
-    let mut list = [0u16; 129];
+    let mut list = [edges as u16; 129];
     let mut at = 0;
     for u in 0..129 {
+        if at == edges {
+            break;
+        }
         at = start(edge, edges, u, at);
         list[u] = at as u16;
     }

@@ -22,7 +22,9 @@ pub struct Found {
     pub edges: usize,
 }
 
-// The times and the edges of a text. Who comes after whom is known here alone, so that its table is gone when the file is made.
+// The times and the edges of a text. Who comes after whom is known here alone, and the function stands by itself on the stack, so that its table of
+// 2 KB is gone when the file is made.
+#[inline(never)]
 fn listed(text: &[u8], wcets: &mut [u32; 128], list: &mut [u16; 1025]) -> Result<Found, Fault>
     requires text_len_bound { length text.now ≤ 65536 }
     requires wcets_value { (wcets.old ≡ replicate 128 0) × (list.old ≡ replicate 1025 0) }

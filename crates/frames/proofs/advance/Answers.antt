@@ -1,4 +1,4 @@
-use Rattle.frames.proofs.Framing.{kinds-below, layout-of, was-busy, moved}
+use Rattle.frames.proofs.Framing.{was-busy, moved}
 use mathlib.Core.Path.{◌≡◌, refl, ap, ◌∙◌}
 use Rattle.model.specs.Places.{bit}
 use Rattle.graph.specs.File.{records}
@@ -18,10 +18,10 @@ use Rattle.frames.proofs.advance.Goals.{After-byte-v}
 
 -- the vertex of the record is one of the graph, its kind is known, and its last record is one of the log
 vertex : (b : After-byte-v) → b.byte-v.result < 128
-vertex b = omega (arith, (fine-at b.requires.lists.in_form b.args.k b.requires.k_bound).vertex, b.byte-v.ensures.0, b.requires.lists.usable.accepted.few_vertices)
+vertex b = omega (arith, (fine-at b.requires.lists.in_form b.args.k b.requires.k_bound).vertex, b.byte-v.ensures.0, b.requires.lists.few)
 
 kind-in : (b : After-byte-v) → get_or b.args.laid.now.graph.kind b.byte-v.result 0 < 10
-kind-in b = rw b.byte-v.ensures.0 (kinds-below b.requires.lists.usable _ (fine-at b.requires.lists.in_form b.args.k b.requires.k_bound).vertex)
+kind-in b = rw b.byte-v.ensures.0 (b.requires.lists.known _ (fine-at b.requires.lists.in_form b.args.k b.requires.k_bound).vertex)
 
 kind-used : (b : After-byte-v) → get_or b.args.used.now (get_or b.args.laid.now.graph.kind b.byte-v.result 0) 0 ≡ used_by b.args.laid.now.graph.kind b.args.laid.now.graph.n b.args.log.now b.args.k (get_or b.args.laid.now.graph.kind (who b.args.log.now b.args.k) 0)
 kind-used b = rw (← b.byte-v.ensures.0) (b.requires.framed.used_are.at _ (kind-in b))
@@ -44,11 +44,11 @@ bounds-used-s c = kind-in (goal.at.bounds-used-s c).After-byte-v
 
 pub overflow_add-many : goal.overflow_add-many
 overflow_add-many c =
-    omega (arith, kind-used (goal.at.overflow_add-many c).After-byte-v, c.from.ensures, bit_is c.starts-start.result, bit_le c.starts-start.result, used-few c.args.laid.now.graph.kind c.args.laid.now.graph.n c.args.log.now c.args.k (get_or c.args.laid.now.graph.kind (who c.args.log.now c.args.k) 0), c.requires.lists.usable.accepted.few_vertices)
+    omega (arith, kind-used (goal.at.overflow_add-many c).After-byte-v, c.from.ensures, bit_is c.starts-start.result, bit_le c.starts-start.result, used-few c.args.laid.now.graph.kind c.args.laid.now.graph.n c.args.log.now c.args.k (get_or c.args.laid.now.graph.kind (who c.args.log.now c.args.k) 0), c.requires.lists.few)
 
 pub overflow_sub-many : goal.overflow_sub-many
 overflow_sub-many c =
-    omega (arith, kind-used (goal.at.overflow_sub-many c).After-byte-v, c.from.ensures, bit_is c.starts-start.result, ap bit c.starts-start.ensures, used-some c.args.laid.now.graph.kind c.requires.lists.in_form c.requires.lists.usable.accepted.few_vertices c.args.k c.requires.k_bound)
+    omega (arith, kind-used (goal.at.overflow_sub-many c).After-byte-v, c.from.ensures, bit_is c.starts-start.result, ap bit c.starts-start.ensures, used-some c.args.laid.now.graph.kind c.requires.lists.in_form c.requires.lists.few c.args.k c.requires.k_bound)
 
 pub bounds-used-s-2 : goal.bounds-used-s-2
 bounds-used-s-2 c = kind-in (goal.at.bounds-used-s-2 c).After-byte-v
@@ -68,7 +68,7 @@ overflow_cast-lasts c = omega (arith, last-in (goal.at.overflow_cast-lasts c).Af
 pub ended-rest-requires : goal.ended-rest-requires
 ended-rest-requires c =
     let F = c.requires.framed in
-    record { layout = layout-of c.requires.lists.usable; settled = F.settled; v_bound = (vertex (goal.at.ended-rest-requires c).After-byte-v, F.busy_are.are c.byte-v.result ∙ rw c.byte-v.ensures.0 (was-busy c.requires.lists c.args.k c.requires.k_bound), record { low = F.busy_are.low; high = F.busy_are.high; are = λ u. refl }) }
+    record { layout = c.requires.lists.layout; settled = F.settled; v_bound = (vertex (goal.at.ended-rest-requires c).After-byte-v, F.busy_are.are c.byte-v.result ∙ rw c.byte-v.ensures.0 (was-busy c.requires.lists c.args.k c.requires.k_bound), record { low = F.busy_are.low; high = F.busy_are.high; are = λ u. refl }) }
 
 pub returns : goal.returns
 returns c =

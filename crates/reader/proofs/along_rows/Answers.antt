@@ -7,11 +7,11 @@ use Rattle.reader.proofs.along_rows.Goals as goal
 pub predecessors-requires : goal.predecessors-requires
 predecessors-requires c =
     let R = accepted-rows c.requires.accepted_graph c.starts-laid.ensures in
-    record { edges_bound = R.few_edges; by_index = (λ i h. (omega (arith, R.from_known i h, R.few_vertices), omega (arith, R.to_known i h, R.few_vertices))); t_value = c.requires.blank.pred }
+    record { edges_bound = R.few_edges; by_index = (λ i h. (omega (arith, R.from_known i h, R.few_vertices), omega (arith, R.to_known i h, R.few_vertices))); t_value = c.requires.pred_value }
 
 pub cyclic-requires : goal.cyclic-requires
 cyclic-requires c =
-    record { rows = accepted-rows c.requires.accepted_graph c.starts-laid.ensures; holds = c.predecessors.ensures; order_len = c.requires.blank.order }
+    record { rows = accepted-rows c.requires.accepted_graph c.starts-laid.ensures; holds = c.predecessors.ensures; order_len = refl }
 
 pub returns : goal.returns
 returns c =

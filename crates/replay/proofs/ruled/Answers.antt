@@ -1,4 +1,4 @@
-use mathlib.Core.Path.{sym, ◌∙◌}
+use mathlib.Core.Path.{refl, sym, ◌∙◌}
 use native.Mathlib.Omega.{arith}
 use Prim.Native.Nat.{◌≤◌}
 use Rattle.model.proofs.Sums.{largest-within}
@@ -11,7 +11,7 @@ use Rattle.recorded.proofs.Judging.{Off}
 use Rattle.recorded.proofs.Records.{fine-at}
 use Rattle.formed.proofs.Passing.{few-records}
 use Rattle.formed.proofs.Clocks.{clock_last}
-use Rattle.frames.specs.Frames.{FaultsBy, FirstIn}
+use Rattle.frames.specs.Frames.{LentOf, FaultsBy, FirstIn}
 use Rattle.replay.proofs.Rows.{next_19, given_19, next_20, given_20, next_21, given_21, next_22, given_22, given_15, all_passed}
 use Rattle.replay.proofs.ruled.Goals as goal
 use Rattle.replay.proofs.ruled.Goals.{After-first_faults-found, In_default, In_default-crowded, In_default-first_above, In_default-idle, Start}
@@ -23,9 +23,13 @@ late : (s : Start) → last_instant s.args.log.now ≤ 128000000
 unfolding last_instant
 late s = largest-within (instant_at s.args.log.now) 128000000 (records s.args.log.now) (λ i b. (fine-at s.requires.in_form.0 i b).early)
 
+-- what is lent is of its own graph
+lent_of : (s : Start) → LentOf s.args.laid.now.graph s.args.laid.now
+lent_of s = let U = s.requires.usable in record { accepted = U.accepted; n_is = refl; cores_are = refl; kind_is = refl; edges_are = refl; starts_are = U.along.starts }
+
 -- what the pass found
 found : (f : After-first_faults-found) → FaultsBy (as_model f.args.laid.now.graph) f.args.log.now (records f.args.log.now) f.first_faults-found.result
-found f = f.first_faults-found.ensures
+found f = f.first_faults-found.ensures _ (lent_of (goal.at.After-first_faults-found f).Start)
 
 -- 22 was looked for up to the last instant
 idle : (f : After-first_faults-found) → FirstIn (rule22 (as_model f.args.laid.now.graph) f.args.log.now) (last_instant f.args.log.now) f.first_faults-found.result.idle
@@ -47,7 +51,7 @@ off-22 e =
     next_22 e.args.laid.now.graph e.args.log.now e.args.room (off-21 (goal.at.In_default-idle e).In_default-first_above) (rw e.in_default-idle.is at (idle (goal.at.In_default-idle e).After-first_faults-found))
 
 pub first_faults-found-requires : goal.first_faults-found-requires
-first_faults-found-requires c = record { usable = c.requires.usable; in_form = (c.requires.in_form.0, c.requires.in_form.2) }
+first_faults-found-requires c = record { lent_of = (_, lent_of (goal.at.first_faults-found-requires c).Start, c.requires.usable.rows); in_form = (c.requires.in_form.0, c.requires.in_form.2) }
 
 pub overflow_cast-k : goal.overflow_cast-k
 overflow_cast-k c = let f = rw c.in-Some.is at (found (goal.at.overflow_cast-k c).After-first_faults-found).early in omega (arith, f.1, few (goal.at.overflow_cast-k c).Start)
